@@ -85,7 +85,7 @@ enum envy_code {
     ENVY_ABSENT = 54,    /* the map has no such pair */
     ENVY_MAP_FULL = 55,  /* the map has as many pairs as it may have */
     ENVY_SLOT_OPEN = 56, /* a transaction is open, which is to be committed or aborted first */
-    ENVY_MAP_SETUP = 57, /* no map fits: fewer than 20 pages or 32 shadows, or more than 1,048,576 pages */
+    ENVY_MAP_SETUP = 57, /* no map fits: fewer than 20 pages or 32 shadows */
     ENVY_BROKEN_MAP = 62, /* the words of the array stand for no map */
     ENVY_BAD_ABORTED = 80, /* a flash operation failed, and the transaction of maps was aborted */
 

@@ -23,16 +23,17 @@
    An array that holds no map may lead these two anywhere.
 
    A map of p pages has at most 14 * (q - 8) pairs, with q = (32 * p - 64) / 64, rounded down: at worst nodes are half
-   full. Its setup has 20 to 1,048,576 pages, and at least 32 shadows.
+   full. Its setup has at least 20 pages and 32 shadows.
 
    No call takes memory from the heap, so a loop as the one above takes none. Calls that only read change no word of the
-   array, and look at one node on each level of the tree, of which there are at most six; `next`, `above` and `last` at a
+   array, and look at one node on each level of the tree, of which there are at most seven; `next`, `above` and `last` at a
    second one on some, a scan at as many as have its pairs.
 
-   Calls that only read begin no flash work. An insert makes at most 841 puts, a removal 1,089, `create` four.
+   Calls that only read begin no flash work. An insert makes at most 841 puts, a removal 1,089, `create` four; of more
+   than 33,554,432 words 970 and 1,281.
 
    Every call may answer, before all that is named beside it: ENVY_EMPTY, the place holds no memory; ENVY_MAP_SETUP, the
-   setup has fewer than 20 pages or 32 shadows, or more than 1,048,576 pages; ENVY_SLOT_OPEN, a transaction is open, which
+   setup has fewer than 20 pages or 32 shadows; ENVY_SLOT_OPEN, a transaction is open, which
    is to be committed or aborted first. Nothing changes then. If a call answers anything but ENVY_DONE, what its last
    pointer points to is as before, and the map has its old pairs. */
 #ifndef ENVY_INDEX_H

@@ -51,6 +51,7 @@ CALL(map_commit, (envy_kept *m, uint32_t slot), (m, slot))
 CALL(map_abort, (envy_kept *m, uint32_t slot), (m, slot))
 CALL(map_get, (envy_kept *m, const envy_map *map, uint64_t key, uint64_t *value), (m, map, key, value))
 CALL(map_count, (envy_kept *m, const envy_map *map, uint64_t *count), (m, map, count))
+CALL(map_check, (envy_kept *m, const envy_map *map, uint32_t *rule), (m, map, OR_PLACE(rule, uint32_t)))
 CALL(map_scan, (envy_kept *m, const envy_map *map, uint64_t key, envy_pair *pairs, size_t n, size_t *count),
      (m, map, key, pairs, n, count))
 CALL(map_scan_down, (envy_kept *m, const envy_map *map, uint64_t key, envy_pair *pairs, size_t n, size_t *count),

@@ -39,6 +39,10 @@ uint32_t envy_kept_map_get(envy_kept *m, const envy_map *map, uint64_t key, uint
 /* Writes how many pairs a map has. ENVY_DONE. */
 uint32_t envy_kept_map_count(envy_kept *m, const envy_map *map, uint64_t *count);
 
+/* Whether the words of the range stand for a map, whatever they are, in time linear in them. ENVY_DONE: they do, so the
+   promise that changes ask for holds. ENVY_BROKEN_MAP: they don't; the first rule that they break is written. `rule` may be NULL. */
+uint32_t envy_kept_map_check(envy_kept *m, const envy_map *map, uint32_t *rule);
+
 /* Writes the pairs from this key on, by rising key, and how many there are: n, or all if there are fewer. The rest of
    the n stays. ENVY_DONE. After another answer nothing is said of the n pairs. */
 uint32_t envy_kept_map_scan(envy_kept *m, const envy_map *map, uint64_t key, envy_pair *pairs, size_t n, size_t *count);

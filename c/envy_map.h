@@ -22,14 +22,14 @@
    transaction has put in, could be more than the setup has shadows, it is refused (ENVY_FULL). It has then changed
    nothing, as after ENVY_MAP_FULL and ENVY_ABSENT: the transaction goes on.
 
-   What the program promises beside what envy_mapped.h says, and nothing checks: the range of envy_map_insert or
-   envy_map_remove holds a map. A call that only reads takes any words, and answers ENVY_BROKEN_MAP if it meets a node that
-   can't be one.
+   What the program promises beside what envy_mapped.h says: the range of envy_map_insert or envy_map_remove holds a map.
+   envy_map_check tells whether it does. A call that only reads takes any words, and answers ENVY_BROKEN_MAP if it meets a
+   node that can't be one.
 
    Every call may answer, before all that is named beside it: ENVY_EMPTY, the place holds no memory; ENVY_SLOT_OPEN;
    ENVY_CLOSED, if it takes a slot: that isn't the one of an open transaction of maps; ENVY_RANGE, if it takes a range: no
    map may lie there. Nothing changes then. If a call answers anything but ENVY_DONE, what its last pointer points to is as
-   before. */
+   before, but for the rule of envy_map_check. */
 #ifndef ENVY_MAP_H
 #define ENVY_MAP_H
 
@@ -64,6 +64,10 @@ uint32_t envy_map_get(envy_mapped *m, const envy_map *map, uint64_t key, uint64_
 
 /* Writes how many pairs a map has. ENVY_DONE. */
 uint32_t envy_map_count(envy_mapped *m, const envy_map *map, uint64_t *count);
+
+/* Whether the words of the range stand for a map, whatever they are, in time linear in them. ENVY_DONE: they do, so the
+   promise that changes ask for holds. ENVY_BROKEN_MAP: they don't; the first rule that they break is written. */
+uint32_t envy_map_check(envy_mapped *m, const envy_map *map, uint32_t *rule);
 
 /* Writes the pairs from this key on, by rising key, and how many there are: n, or all if there are fewer. The rest of
    the n stays. ENVY_DONE. After another answer nothing is said of the n pairs. */

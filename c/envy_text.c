@@ -1,5 +1,6 @@
 #include "envy_text.h"
 #include "envy_codes.h"
+#include "envy_pair.h"
 
 const char *envy_version(void) { return ENVY_VERSION; }
 
@@ -67,7 +68,7 @@ const char *envy_error_text(uint32_t code) {
     case ENVY_ABSENT: return "the map has no such pair";
     case ENVY_MAP_FULL: return "the map has no room for more pairs";
     case ENVY_SLOT_OPEN: return "a transaction is open";
-    case ENVY_MAP_SETUP: return "a map needs 20 to 1048576 pages and at least 32 shadows";
+    case ENVY_MAP_SETUP: return "a map needs at least 20 pages and 32 shadows";
     case ENVY_BROKEN_MAP: return "the words of the array stand for no map";
     case ENVY_BAD_ABORTED: return "a flash operation failed, and the transaction was aborted";
     case ENVY_FLASH_ADDRESS: return "the part's map doesn't begin at a multiple of 256 bytes";
@@ -84,4 +85,23 @@ const char *envy_error_text(uint32_t code) {
     case ENVY_TOO_MANY: return "too many files are open";
     }
     return "no code of this library";
+}
+
+const char *envy_map_rule_text(uint32_t rule) {
+    switch (rule) {
+    case ENVY_MAP_SHORT: return "there are fewer than 640 words";
+    case ENVY_MAP_USED: return "more nodes were handed out than there is room for";
+    case ENVY_MAP_MANY: return "the number of pairs is above the most";
+    case ENVY_MAP_FREE_LIST: return "the list of free nodes has no end, or leads out of the map";
+    case ENVY_MAP_DEEP: return "the tree has too many levels";
+    case ENVY_MAP_NODE: return "the root or a child is no node";
+    case ENVY_MAP_HEAD: return "the first word of a node isn't one of a node";
+    case ENVY_MAP_LEVEL: return "a leaf is less deep than another one";
+    case ENVY_MAP_FEW: return "a node has too few keys";
+    case ENVY_MAP_KEYS: return "a key is out of order";
+    case ENVY_MAP_FREED: return "a node of the tree is free too";
+    case ENVY_MAP_LOST: return "a node is neither in the tree nor free";
+    case ENVY_MAP_COUNT: return "the number of pairs isn't that of the tree";
+    }
+    return "no rule of maps";
 }

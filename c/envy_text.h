@@ -17,6 +17,9 @@ const char *envy_version(void);
 /* A text of a few words for an envy_code or an envy_file_code, in English, without a full stop. It is never null. */
 const char *envy_error_text(uint32_t code);
 
+/* A text for an envy_map_rule of envy_pair.h, in the same way. */
+const char *envy_map_rule_text(uint32_t rule);
+
 #ifdef __cplusplus
 }
 #endif

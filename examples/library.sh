@@ -135,7 +135,11 @@ ASAN_OPTIONS=detect_leaks=0 out/ordered-asan "$work/ordered-asan.file" 50000 "${
 out/ordered "$work/ordered.file" 1000000 "${1-1}"
 ASAN_OPTIONS=detect_leaks=0 out/maps-asan "$work/maps-asan.file" 50000 "${1-1}"
 out/maps "$work/maps.file" 1000000 "${1-1}"
+ASAN_OPTIONS=detect_leaks=0 out/broken_maps-asan "$work/broken-asan.file" 20000 "${1-1}"
+out/broken_maps "$work/broken.file" 200000 "${1-1}"
 out/kept_ordered "$work/kept-ordered.file" 32000 "${1-1}"
+# (10,000,000 pairs, in an array of more pages than the tree once took, take some minutes: out/large_map FILE 10000000)
+out/large_map "$work/large-map.file" 100000
 ASAN_OPTIONS=detect_leaks=0 out/files-asan "$work/files.file" # a handle lasts as long as the process
 TMPDIR=$work out/rust-tests --quiet
 TMPDIR=$work out/rust-kept-tests --quiet

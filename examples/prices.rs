@@ -35,8 +35,7 @@ fn price_key(price: u64, article: u64) -> u64 {
 impl Prices {
     fn open(path: &str) -> Result<Prices, Error> {
         let maps = Maps::over(Memory::open(path, &SETUP)?);
-        // SAFETY: the file is new, or these programs wrote it.
-        let (by_article, by_price) = unsafe { (maps.open(0..MAP_WORDS)?, maps.open(MAP_WORDS..COUNTER)?) };
+        let (by_article, by_price) = (maps.find(0..MAP_WORDS)?, maps.find(MAP_WORDS..COUNTER)?);
         Ok(Prices { maps, by_article, by_price })
     }
 

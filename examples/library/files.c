@@ -1,5 +1,6 @@
-/* What envy_file answers of files that are there or not, locked, cut short, too long, of another shape or foreign, and
-   that nothing of a refused file is changed. Each answer is shown by its text.
+/* What envy_file answers of files that are there or not, locked, cut short, too long, of another shape or foreign, that
+   nothing of a refused file is changed, and that no program which is started has an open one. Each answer is shown by its
+   text.
 
      files FILE */
 #include "../../c/envy_file.h"
@@ -115,6 +116,32 @@ static void closed_while_forked(const char *path) {
     waitpid(child, NULL, 0);
 }
 
+/* Whether a program that is started now has this file open. */
+static int is_handed_on(const char *path) {
+    static const char looks[] = "for at in /proc/$$/fd/*; do [ ! \"$at\" -ef \"$0\" ] || exit 1; done";
+    int status;
+    fflush(stdout);
+    pid_t child = fork();
+    if (child == 0) {
+        execl("/bin/sh", "sh", "-c", looks, path, (char *)NULL);
+        _exit(2);
+    }
+    must(waitpid(child, &status, 0) == child && WIFEXITED(status) && WEXITSTATUS(status) < 2, "no program is started");
+    return WEXITSTATUS(status);
+}
+
+/* A program that is started while a file is open, one that was made or one that was there, doesn't have it. */
+static void not_handed_on(const char *path) {
+    for (int there = 0; there < 2; there++) {
+        envy_file f = ENVY_FILE_INIT;
+        must(envy_file_open(&f, path, &setup) == ENVY_DONE, "the file doesn't open");
+        must(!is_handed_on(path), "a program that was started has the file");
+        must(!fcntl(f.descriptor, F_SETFD, 0) && is_handed_on(path), "a file that is handed on isn't found");
+        must(envy_file_close(&f) == ENVY_DONE, "close");
+    }
+    must(!unlink(path), "unlink");
+}
+
 int main(int words, char **word) {
     if (words != 2) return 2;
     const char *path = word[1];
@@ -136,6 +163,7 @@ int main(int words, char **word) {
     must(envy_file_close(&f) == ENVY_DONE, "close");
     word_is(path, 11);
     must(!unlink(path), "unlink");
+    not_handed_on(path);
     made_without_streams(path);
     closed_while_forked(path);
 

@@ -42,7 +42,7 @@ pub enum Error {
     MapFull,
     /// A transaction is open, which is to be ended first.
     SlotOpen,
-    /// The setup has fewer than 20 pages or 32 shadows, or more than 1,048,576 pages, so no map fits.
+    /// The setup has fewer than 20 pages or 32 shadows, so no map fits.
     MapSetup,
     /// The words of the memory stand for no map.
     BrokenMap,

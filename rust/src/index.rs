@@ -112,7 +112,7 @@ impl<M: Holder> Index<M> {
     ///
     /// # Errors
     ///
-    /// `MapSetup`: a map needs 20 to 1,048,576 pages and 32 shadows. `SlotOpen`, where a transaction was forgotten and never ended.
+    /// `MapSetup`: a map needs 20 pages and 32 shadows. `SlotOpen`, where a transaction was forgotten and never ended.
     pub fn create(memory: M) -> Result<Index<M>, Error> {
         let index = Index { memory };
         index.check(index.memory.create())?;

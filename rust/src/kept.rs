@@ -240,7 +240,7 @@ impl Place for KeptMemory {}
 
 maps::calls::map_calls!(KeptMemory: envy_kept_put envy_kept_load envy_kept_map_begin envy_kept_map_create
     envy_kept_map_insert envy_kept_map_remove envy_kept_map_commit envy_kept_map_abort envy_kept_map_get envy_kept_map_count
-    envy_kept_map_scan envy_kept_map_scan_down);
+    envy_kept_map_check envy_kept_map_scan envy_kept_map_scan_down);
 
 calls::calls!(KeptMemory: envy_kept_index_create envy_kept_index_get envy_kept_index_insert envy_kept_index_remove
     envy_kept_index_count envy_kept_index_next envy_kept_index_above envy_kept_index_last envy_kept_index_scan

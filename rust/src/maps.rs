@@ -25,6 +25,7 @@ pub(crate) mod calls {
         fn abort(&self, slot: u32) -> u32;
         fn get(&self, map: &sys::Range, key: u64, value: &mut u64) -> u32;
         fn count(&self, map: &sys::Range, count: &mut u64) -> u32;
+        fn check(&self, map: &sys::Range, rule: &mut u32) -> u32;
         fn scan(&self, map: &sys::Range, key: u64, pairs: &mut [sys::Pair], count: &mut usize) -> u32;
         fn scan_down(&self, map: &sys::Range, key: u64, pairs: &mut [sys::Pair], count: &mut usize) -> u32;
     }
@@ -32,7 +33,7 @@ pub(crate) mod calls {
     /// Writes the calls of a kind of memory, each of which is open while it is there and whose handle is its own.
     macro_rules! map_calls {
         ($memory:ty: $put:ident $load:ident $begin:ident $create:ident $insert:ident $remove:ident $commit:ident
-            $abort:ident $get:ident $count:ident $scan:ident $scan_down:ident) => {
+            $abort:ident $get:ident $count:ident $check:ident $scan:ident $scan_down:ident) => {
             impl $crate::maps::calls::Calls for $memory {
                 fn error(&self, code: u32, holder: u32) -> $crate::Error {
                     <$memory>::error(self, code, holder)
@@ -68,6 +69,9 @@ pub(crate) mod calls {
                 fn count(&self, map: &sys::Range, count: &mut u64) -> u32 {
                     unsafe { sys::$count(self.handle(), map, count) }
                 }
+                fn check(&self, map: &sys::Range, rule: &mut u32) -> u32 {
+                    unsafe { sys::$check(self.handle(), map, rule) }
+                }
                 fn scan(&self, map: &sys::Range, key: u64, pairs: &mut [sys::Pair], count: &mut usize) -> u32 {
                     unsafe { sys::$scan(self.handle(), map, key, pairs.as_mut_ptr(), pairs.len(), count) }
                 }
@@ -86,7 +90,7 @@ pub trait Place: calls::Calls {}
 impl Place for Memory {}
 
 calls::map_calls!(Memory: envy_mapped_put envy_mapped_load envy_map_begin envy_map_create envy_map_insert envy_map_remove
-    envy_map_commit envy_map_abort envy_map_get envy_map_count envy_map_scan envy_map_scan_down);
+    envy_map_commit envy_map_abort envy_map_get envy_map_count envy_map_check envy_map_scan envy_map_scan_down);
 
 /// How many pairs an iterator reads at once.
 const PART: usize = 64;
@@ -124,7 +128,7 @@ impl<M: Place> Maps<M> {
     }
 
     /// Makes a map without pairs in a range of addresses, whatever its words are. They begin and end at multiples of 32,
-    /// and are 640 to 33,554,432.
+    /// and are 640 to 536,870,912.
     ///
     /// # Errors
     ///
@@ -135,7 +139,19 @@ impl<M: Place> Maps<M> {
         Ok(self.added(range))
     }
 
-    /// Takes up the map that a range holds.
+    /// Takes up the map that a range holds, after a look at all its words.
+    ///
+    /// # Errors
+    ///
+    /// `BrokenMap`: they stand for no map. `Range`: another map lies there, or none may. `SlotOpen`.
+    pub fn find(&self, words: Range<u32>) -> Result<Map, Error> {
+        let range = self.apart(words)?;
+        let mut rule = 0;
+        self.check(self.memory.check(&range, &mut rule))?;
+        Ok(self.added(range))
+    }
+
+    /// Takes up the map that a range holds, without a look at its words.
     ///
     /// # Safety
     ///

@@ -181,6 +181,7 @@ extern "C" {
     pub fn envy_map_abort(m: *mut Handle, slot: u32) -> u32;
     pub fn envy_map_get(m: *mut Handle, map: *const Range, key: u64, value: *mut u64) -> u32;
     pub fn envy_map_count(m: *mut Handle, map: *const Range, count: *mut u64) -> u32;
+    pub fn envy_map_check(m: *mut Handle, map: *const Range, rule: *mut u32) -> u32;
     pub fn envy_map_scan(
         m: *mut Handle,
         map: *const Range,
@@ -260,6 +261,7 @@ extern "C" {
     pub fn envy_kept_map_abort(m: *mut Handle, slot: u32) -> u32;
     pub fn envy_kept_map_get(m: *mut Handle, map: *const Range, key: u64, value: *mut u64) -> u32;
     pub fn envy_kept_map_count(m: *mut Handle, map: *const Range, count: *mut u64) -> u32;
+    pub fn envy_kept_map_check(m: *mut Handle, map: *const Range, rule: *mut u32) -> u32;
     pub fn envy_kept_map_scan(
         m: *mut Handle,
         map: *const Range,

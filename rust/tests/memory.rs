@@ -268,6 +268,13 @@ fn maps_change_together_or_not_at_all() {
     let two = unsafe { maps.open(1024..2048) }.unwrap();
     assert_eq!(maps.get(two, 51).unwrap(), Some(5));
     assert!(matches!(maps.create(2016..2656), Err(Error::Range)));
+    // the word that counts the pairs of the other one is another
+    let memory = maps.into_memory();
+    memory.store(3, memory.load(3).unwrap() + 1).unwrap();
+    let maps = Maps::over(memory);
+    assert!(matches!(maps.find(0..1024), Err(Error::BrokenMap)));
+    let two = maps.find(1024..2048).unwrap();
+    assert_eq!((maps.get(two, 51).unwrap(), maps.len(two).unwrap()), (Some(5), 1));
 }
 
 #[test]

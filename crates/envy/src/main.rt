@@ -3,19 +3,19 @@
 
 ghost use Rattle.std.specs.Prelude.{◌≡◌, ◌≢◌, ◌≤◌, IsErr, IsOk};
 
-mod keeping;
-mod running;
+mod calm_run;
+mod keep_command;
 mod streams;
 mod words;
 
 use arrayvec::ArrayVec;
+use calm_run::run_over_calm_boards;
 use envy_bench::CalmBoard;
 use envy_io::{Failed, Sink};
 use envy_keep::keep_end_text;
 use envy_run::{Ended, end_text};
 use envy_streams::{BufferedSink, BufferedSource};
-use keeping::keep_words;
-use running::run_over_calm_boards;
+use keep_command::keep_words;
 use std::cell::RefCell;
 use std::process::ExitCode;
 use streams::{AskedSource, HeldSink, StdSink, StdSource};

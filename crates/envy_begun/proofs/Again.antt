@@ -50,6 +50,7 @@ use Rattle.envy_policy.specs.declared.setup.Setup.{Setup}
 -- a memory over a board that was compacted
 pub still-compact : (was now : Chart) → now.shape ≡ was.shape → now.given ≡ was.given → IsCompact was → IsCompact now
 still-compact was now shape given is = record {
+  hindrances = is.hindrances;
   bytes = is.bytes;
   coded = given ∙ is.coded;
   short = subst (λ (x : Shape). length is.bytes ≤ most_of x) (sym shape) is.short;
@@ -57,10 +58,10 @@ still-compact was now shape given is = record {
 
 -- and over one that wasn't
 pub still-same : (file : List ℕ) (was now : Chart) → now.given ≡ was.given → HasOperationsOf file was → HasOperationsOf file now
-still-same file was now given has = record { bytes = has.bytes; coded = given ∙ has.coded; same = has.same }
+still-same file was now given has = record { hindrances = has.hindrances; bytes = has.bytes; coded = given ∙ has.coded; same = has.same }
 
 pub has-operations : (file : List ℕ) (c : Chart) (synced : IsSynced c) → operations synced.bytes ≡ operations file → HasOperationsOf file c
-has-operations file c synced same = record { bytes = synced.bytes; coded = synced.coded; same = same }
+has-operations file c synced same = record { hindrances = synced.hindrances; bytes = synced.bytes; coded = synced.coded; same = same }
 
 -- no shape has version 1
 never-first : (sh : Shape) → version_of sh ≡ 1 → ⊥

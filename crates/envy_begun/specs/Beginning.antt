@@ -1,5 +1,5 @@
 -- A memory that is kept in a file, before its first line.
-use Rattle.std.specs.Prelude.{◌≡◌, ℕ, ◌+◌, ◌^◌, ◌<◌, ◌≤◌, IsTrue, Bool, false, List, length}
+use Rattle.std.specs.Prelude.{◌≡◌, ℕ, ◌+◌, ◌^◌, ◌<◌, ◌≤◌, IsTrue, Bool, false, List, ◌∷◌, length}
 use Rattle.envy_base.specs.Shape.{version_of}
 use Rattle.envy_base.specs.Array.{Array, undone}
 use Rattle.envy_begun.specs.declared.unbegun.Unbegun.{Unbegun}
@@ -33,8 +33,9 @@ pub record HasBegun (setup : Setup) (array : Array) (p : Picture) : Type 0 where
 
 -- the journal that a board's numbers tell is on the disk has the operations of a file, each as it was
 pub record HasOperationsOf (file : List ℕ) (c : Chart) : Type 0 where
+  pub hindrances : ℕ
   pub bytes : List ℕ
-  pub coded : c.given ≡ number bytes
+  pub coded : c.given ≡ number (hindrances ∷ bytes)
   pub same : operations bytes ≡ operations file
 
 -- the file failed, or with so many bytes held back from it, and no more than a log holds, is at the end of its range

@@ -135,7 +135,7 @@ kept-index es old new shut kept x = subst (λ w. IsIndex w es) (shut ∙ sym kep
 pub third-within : (ws : List ℕ) (es : List (ℕ × ℕ)) → IsIndex ws es → 3 < length ws
 third-within ws es x = omega (arith, x.planted.heap.size)
 
-pub count-fits : (ws : List ℕ) (es : List (ℕ × ℕ)) (n : ℕ) → IsIndex ws es → n ≡ get_or ws 3 0 → length ws ≤ 2 ^ 25 → n < 2 ^ 32
+pub count-fits : (ws : List ℕ) (es : List (ℕ × ℕ)) (n : ℕ) → IsIndex ws es → n ≡ get_or ws 3 0 → length ws ≤ 2 ^ 29 → n < 2 ^ 32
 count-fits ws es n x is size = omega (arith, x.few, x.count)
 
 -- more pairs than there may be

@@ -8,6 +8,7 @@ use Rattle.std.proofs.lemmas.List.Sums.{sum_by-cons}
 use Rattle.std.proofs.lemmas.List.Elements.{All-head, All-tail}
 use Rattle.envy_heap.specs.Pieces.{IsHeap, handed, pieces, spare, one, times}
 use Rattle.envy_heap.proofs.Heaps.{one-same, one-apart, one-lt, one-ge, lt-one, times-cons, free-below}
+use Rattle.envy_btree.specs.Depths.{most_levels}
 use Rattle.envy_btree.specs.Tree.{Tree, uses, Sized, pairs_of}
 
 -- the sum of f below n
@@ -101,16 +102,29 @@ wide-some : (d : ℕ) → 1 ≤ wide d
 wide-some zero = omega arith
 wide-some (suc d) = omega (arith, wide-some d)
 
--- a tree of at most 2^19 nodes has at most six levels
-pub levels-few : (d : ℕ) (t : Tree d) → Sized true d t → nodes d t ≤ 524288 → d ≤ 5
-levels-few zero t s few = omega arith
-levels-few (suc zero) t s few = omega arith
-levels-few (suc (suc zero)) t s few = omega arith
-levels-few (suc (suc (suc zero))) t s few = omega arith
-levels-few (suc (suc (suc (suc zero)))) t s few = omega arith
-levels-few (suc (suc (suc (suc (suc zero))))) t s few = omega arith
-levels-few (suc (suc (suc (suc (suc (suc d)))))) t s few =
+-- a tree of at most 2^19 nodes has at most five levels of inner nodes
+levels-five : (d : ℕ) (t : Tree d) → Sized true d t → nodes d t ≤ 524288 → d ≤ 5
+levels-five zero t s few = omega arith
+levels-five (suc zero) t s few = omega arith
+levels-five (suc (suc zero)) t s few = omega arith
+levels-five (suc (suc (suc zero))) t s few = omega arith
+levels-five (suc (suc (suc (suc zero)))) t s few = omega arith
+levels-five (suc (suc (suc (suc (suc zero))))) t s few = omega arith
+levels-five (suc (suc (suc (suc (suc (suc d)))))) t s few =
     let e : ℕ = suc (suc (suc (suc (suc d)))) in
+    absurd (omega (arith, wide-some d, mul-le-mul_right (wide e) s.0, kids-wide e (λ c b. nodes-wide e c b) t.kids s.2))
+
+-- and one of at most 2^23 at most six
+levels-six : (d : ℕ) (t : Tree d) → Sized true d t → nodes d t ≤ 8388608 → d ≤ 6
+levels-six zero t s few = omega arith
+levels-six (suc zero) t s few = omega arith
+levels-six (suc (suc zero)) t s few = omega arith
+levels-six (suc (suc (suc zero))) t s few = omega arith
+levels-six (suc (suc (suc (suc zero)))) t s few = omega arith
+levels-six (suc (suc (suc (suc (suc zero))))) t s few = omega arith
+levels-six (suc (suc (suc (suc (suc (suc zero)))))) t s few = omega arith
+levels-six (suc (suc (suc (suc (suc (suc (suc d))))))) t s few =
+    let e : ℕ = suc (suc (suc (suc (suc (suc d))))) in
     absurd (omega (arith, wide-some d, mul-le-mul_right (wide e) s.0, kids-wide e (λ c b. nodes-wide e c b) t.kids s.2))
 
 total-zero : (n : ℕ) → total (λ q. 0) n ≡ 0
@@ -146,6 +160,9 @@ spare-enough ws free d t h s all few = omega (arith, spare-nodes ws free d t h a
 pub spare-all : (ws free : List ℕ) → IsHeap ws free → ((q : ℕ) → handed ws free q ≡ 0) → spare ws free ≡ pieces ws
 spare-all ws free h none = omega (arith, handed-total ws free h, total-same (handed ws free) (λ q. 0) (pieces ws) none, total-zero (pieces ws), h.used)
 
--- the levels of a tree in at most 2^25 words
-pub depth-few : (ws free : List ℕ) (d : ℕ) (t : Tree d) → IsHeap ws free → Sized true d t → ((q : ℕ) → uses d t q ≡ handed ws free q) → length ws ≤ 33554432 → d ≤ 5
-depth-few ws free d t h s all few = levels-few d t s (omega (arith, spare-nodes ws free d t h all))
+-- the levels of a tree in at most 2^29 words
+pub depth-few : (ws free : List ℕ) (d : ℕ) (t : Tree d) → IsHeap ws free → Sized true d t → ((q : ℕ) → uses d t q ≡ handed ws free q) → length ws ≤ 536870912 → d ≤ most_levels (length ws)
+depth-few ws free d t h s all few = elim (cases_lt (length ws) 33554433) [
+  | inl lt ↦ omega (arith, lt, levels-five d t s (omega (arith, lt, spare-nodes ws free d t h all)))
+  | inr ge ↦ omega (arith, ge, levels-six d t s (omega (arith, spare-nodes ws free d t h all)))
+]

@@ -17,7 +17,7 @@ use Rattle.envy_btree.proofs.Rooting.{Root-empty}
 use Rattle.envy_btree.proofs.Trees.{Fans-after, Fans-before, Ordered-within, high_of, low-next, low_of}
 use Rattle.envy_btree.proofs.Walking.{Fans-bounds, Fans-ranks, InnerAt, child-stands, inner-at}
 
-pub under-rests : (ws : List ℕ) (es : List (ℕ × ℕ)) (p low top levels : ℕ) → IsUnder ws es p low top levels → Rests ws p 5
+pub under-rests : (ws : List ℕ) (es : List (ℕ × ℕ)) (p low top levels : ℕ) → IsUnder ws es p low top levels → Rests ws p 6
 under-rests ws es p low top levels u = record {
   free = u.free;
   heap = u.heap;
@@ -32,12 +32,12 @@ under-rests ws es p low top levels u = record {
 }
 
 pub under-within : (ws : List ℕ) (es : List (ℕ × ℕ)) (p low top levels : ℕ) → IsUnder ws es p low top levels → at p 63 < length ws
-under-within ws es p low top levels u = (Rests-within ws p 5 (under-rests ws es p low top levels u)).0
+under-within ws es p low top levels u = (Rests-within ws p 6 (under-rests ws es p low top levels u)).0
 
 pub under-few : (ws : List ℕ) (es : List (ℕ × ℕ)) (p low top levels : ℕ) → IsUnder ws es p low top levels → get_or ws (head p) 0 < 64
-under-few ws es p low top levels u = Rests-few ws p 5 (under-rests ws es p low top levels u)
+under-few ws es p low top levels u = Rests-few ws p 6 (under-rests ws es p low top levels u)
 
-pub under-deep : (ws : List ℕ) (es : List (ℕ × ℕ)) (p low top levels : ℕ) → IsUnder ws es p low top levels → 6 ≤ levels → ⊥
+pub under-deep : (ws : List ℕ) (es : List (ℕ × ℕ)) (p low top levels : ℕ) → IsUnder ws es p low top levels → 7 ≤ levels → ⊥
 under-deep ws es p low top levels u deep = absurd (omega (arith, u.few))
 
 -- the kind and the count that a first word says
@@ -87,7 +87,7 @@ high-at ws a count key low top index new_low new_top ks x long same = elim (case
 ]
 
 -- one step down
-child-of : (ws : List ℕ) (es : List (ℕ × ℕ)) (p low top levels count key index new_low new_top child : ℕ) (free : List ℕ) (heap : IsHeap ws free) (root : Bool) (d : ℕ) (t : Tree d) (before after : List (ℕ × ℕ)) → d + levels ≤ 5 → piece_of d t ≡ p → Stands ws free root low (top + 1) d t → Rising 0 (2 ^ 64) es → es ≡ before ++ (pairs_of d t ++ after) → Below low before → Above top after
+child-of : (ws : List ℕ) (es : List (ℕ × ℕ)) (p low top levels count key index new_low new_top child : ℕ) (free : List ℕ) (heap : IsHeap ws free) (root : Bool) (d : ℕ) (t : Tree d) (before after : List (ℕ × ℕ)) → d + levels ≤ 6 → piece_of d t ≡ p → Stands ws free root low (top + 1) d t → Rising 0 (2 ^ 64) es → es ≡ before ++ (pairs_of d t ++ after) → Below low before → Above top after
     → get_or ws (head p) 0 ≡ 2 * count + 1 → IsPlace ws (at p 1) count key low top index new_low new_top → child ≡ get_or ws (at p 32 + index) 0 → IsUnder ws es child new_low new_top (levels + 1)
 child-of ws es p low top levels count key index new_low new_top child free heap root zero t before after few is s rises split smaller greater first x at_child =
     let odd : get_or ws (head t.piece) 0 ≡ 2 * count + 1 = ap (λ q. get_or ws (head q) 0) is ∙ first in
@@ -165,7 +165,7 @@ under-leaf ws es p low top levels count u first = leaf-at-end ws es p low top co
 
 -- the root
 
-under-of : (ws : List ℕ) (es : List (ℕ × ℕ)) (p : ℕ) (x : IsPlanted ws es) → length ws ≤ 33554432 → p ≡ get_or ws 0 0 - 1 → get_or ws 0 0 ≢ 0 → Rooted ws x.free es → IsUnder ws es p 0 (2 ^ 64 - 1) 0
+under-of : (ws : List ℕ) (es : List (ℕ × ℕ)) (p : ℕ) (x : IsPlanted ws es) → length ws ≤ 536870912 → p ≡ get_or ws 0 0 - 1 → get_or ws 0 0 ≢ 0 → Rooted ws x.free es → IsUnder ws es p 0 (2 ^ 64 - 1) 0
 under-of ws es p x small is some (inl e) = absurd (some e.0)
 under-of ws es p x small is some (inr t) = record {
   free = x.free;
@@ -184,7 +184,7 @@ under-of ws es p x small is some (inr t) = record {
   greater = All-nil (λ (e : ℕ × ℕ). 2 ^ 64 - 1 < e.0);
 }
 
-pub root-under : (ws : List ℕ) (es : List (ℕ × ℕ)) (p : ℕ) → IsIndex ws es → length ws ≤ 33554432 → p ≡ get_or ws 0 0 - 1 → get_or ws 0 0 ≢ 0 → IsUnder ws es p 0 (2 ^ 64 - 1) 0
+pub root-under : (ws : List ℕ) (es : List (ℕ × ℕ)) (p : ℕ) → IsIndex ws es → length ws ≤ 536870912 → p ≡ get_or ws 0 0 - 1 → get_or ws 0 0 ≢ 0 → IsUnder ws es p 0 (2 ^ 64 - 1) 0
 root-under ws es p x small is some = under-of ws es p x.planted small is some x.planted.tree
 
 pub root-none : (ws : List ℕ) (es : List (ℕ × ℕ)) → IsIndex ws es → get_or ws 0 0 ≡ 0 → es ≡ []

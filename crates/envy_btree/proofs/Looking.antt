@@ -1,12 +1,12 @@
 -- What a change knows before it puts a word.
 use Rattle.std.proofs.Common.{◌≡◌, ◌≢◌, ℕ, ◌+◌, ◌-◌, ◌^◌, ◌≤◌, Bool, true, false, List, length, get_or, Option, None, Some, refl, ap, sym, subst, ◌∙◌, inl, inr, IfOk, Result, Ok, Err, arith}
 use Rattle.envy_base.specs.declared.board.Off.{Off}
-use Rattle.envy_btree.specs.declared.locating.Found.{Found}
+use Rattle.envy_btree.specs.declared.search.Found.{Found}
 use Rattle.envy_btree.specs.Pairs.{assoc}
 use Rattle.envy_btree.specs.Tree.{pairs_of}
 use Rattle.envy_btree.specs.Index.{IsIndex}
 use Rattle.envy_btree.specs.Changes.{Rests}
-use Rattle.envy_btree.specs.Depths.{IsDeep, IsShallow}
+use Rattle.envy_btree.specs.Depths.{IsDeep, IsShallow, most_levels}
 use Rattle.envy_btree.specs.Spots.{IsSpot, ValueAt, keys_at, slots_at}
 use Rattle.envy_btree.proofs.Counting.{depth-few}
 use Rattle.envy_btree.proofs.Descent.{Ends-made}
@@ -46,18 +46,18 @@ depth-below ws mid p level key n i child m t s f =
 pub none-deep : (ws : List ℕ) → get_or ws 0 0 ≡ 0 → IsDeep ws 0
 none-deep ws none = record { none = λ e. refl; levels = λ free d t heap tree. absurd (omega (arith, tree.root)) }
 
-pub root-deep : (ws : List ℕ) (p m : ℕ) → length ws ≤ 33554432 → p ≡ get_or ws 0 0 - 1 → get_or ws 0 0 ≢ 0 → ((h : Rests ws p 5) → m ≡ h.depth) → IsDeep ws m
+pub root-deep : (ws : List ℕ) (p m : ℕ) → length ws ≤ 536870912 → p ≡ get_or ws 0 0 - 1 → get_or ws 0 0 ≢ 0 → ((h : Rests ws p 6) → m ≡ h.depth) → IsDeep ws m
 root-deep ws p m small is some f = record {
   none = λ e. absurd (some e);
-  levels = λ free d t heap tree. sym (f (record { free = free; heap = heap; root = true; low = 0; high = 2 ^ 64; depth = d; tree = t; few = depth-few ws free d t heap tree.stands.sized tree.all small; is = omega (arith, tree.root); stands = tree.stands }));
+  levels = λ free d t heap tree. sym (f (record { free = free; heap = heap; root = true; low = 0; high = 2 ^ 64; depth = d; tree = t; few = omega (arith, depth-few ws free d t heap tree.stands.sized tree.all small); is = omega (arith, tree.root); stands = tree.stands }));
 }
 
-pub root-few : (ws : List ℕ) (es : List (ℕ × ℕ)) (p m : ℕ) → IsIndex ws es → length ws ≤ 33554432 → p ≡ get_or ws 0 0 - 1 → get_or ws 0 0 ≢ 0 → ((h : Rests ws p 5) → m ≡ h.depth) → m ≤ 5
+pub root-few : (ws : List ℕ) (es : List (ℕ × ℕ)) (p m : ℕ) → IsIndex ws es → length ws ≤ 536870912 → p ≡ get_or ws 0 0 - 1 → get_or ws 0 0 ≢ 0 → ((h : Rests ws p 6) → m ≡ h.depth) → m ≤ most_levels (length ws)
 root-few ws es p m x small is some f =
     let r = Root-rests ws es p x.planted small is some in
-    omega (arith, f r.rests, r.rests.few)
+    omega (arith, f r.rests, r.levels)
 
-pub root-value : (ws : List ℕ) (es : List (ℕ × ℕ)) (p key : ℕ) (v : Option ℕ) → IsIndex ws es → length ws ≤ 33554432 → p ≡ get_or ws 0 0 - 1 → get_or ws 0 0 ≢ 0 → ((h : Rests ws p 5) → v ≡ assoc key (pairs_of h.depth h.tree)) → v ≡ assoc key es
+pub root-value : (ws : List ℕ) (es : List (ℕ × ℕ)) (p key : ℕ) (v : Option ℕ) → IsIndex ws es → length ws ≤ 536870912 → p ≡ get_or ws 0 0 - 1 → get_or ws 0 0 ≢ 0 → ((h : Rests ws p 6) → v ≡ assoc key (pairs_of h.depth h.tree)) → v ≡ assoc key es
 root-value ws es p key v x small is some f =
     let r = Root-rests ws es p x.planted small is some in
     f r.rests ∙ ap (assoc key) (sym r.whole)
@@ -66,21 +66,21 @@ pub root-none : (ws : List ℕ) (es : List (ℕ × ℕ)) (key : ℕ) → IsIndex
 root-none ws es key x none = Root-none ws es key x.planted none
 
 -- the same, of what the search answered
-pub root-value-ok : (ws mid : List ℕ) (es : List (ℕ × ℕ)) (p key : ℕ) (r : Result Found Off) → IsIndex ws es → length ws ≤ 33554432 → p ≡ get_or ws 0 0 - 1 → get_or ws 0 0 ≢ 0 → mid ≡ ws → ((h : Rests mid p 5) → IfOk r (λ x. x.value ≡ assoc key (pairs_of h.depth h.tree))) → IfOk r (λ x. x.value ≡ assoc key es)
-root-value-ok ws mid es p key (Ok x) i small is some same f = root-value ws es p key x.value i small is some (subst (λ w. (h : Rests w p 5) → x.value ≡ assoc key (pairs_of h.depth h.tree)) same f)
+pub root-value-ok : (ws mid : List ℕ) (es : List (ℕ × ℕ)) (p key : ℕ) (r : Result Found Off) → IsIndex ws es → length ws ≤ 536870912 → p ≡ get_or ws 0 0 - 1 → get_or ws 0 0 ≢ 0 → mid ≡ ws → ((h : Rests mid p 6) → IfOk r (λ x. x.value ≡ assoc key (pairs_of h.depth h.tree))) → IfOk r (λ x. x.value ≡ assoc key es)
+root-value-ok ws mid es p key (Ok x) i small is some same f = root-value ws es p key x.value i small is some (subst (λ w. (h : Rests w p 6) → x.value ≡ assoc key (pairs_of h.depth h.tree)) same f)
 root-value-ok ws mid es p key (Err e) i small is some same f = tt
 
-pub root-deep-ok : (ws mid : List ℕ) (p : ℕ) (r : Result Found Off) → length ws ≤ 33554432 → p ≡ get_or ws 0 0 - 1 → get_or ws 0 0 ≢ 0 → mid ≡ ws → ((h : Rests mid p 5) → IfOk r (λ x. x.depth ≡ h.depth)) → IfOk r (λ x. IsDeep ws x.depth)
-root-deep-ok ws mid p (Ok x) small is some same f = root-deep ws p x.depth small is some (subst (λ w. (h : Rests w p 5) → x.depth ≡ h.depth) same f)
+pub root-deep-ok : (ws mid : List ℕ) (p : ℕ) (r : Result Found Off) → length ws ≤ 536870912 → p ≡ get_or ws 0 0 - 1 → get_or ws 0 0 ≢ 0 → mid ≡ ws → ((h : Rests mid p 6) → IfOk r (λ x. x.depth ≡ h.depth)) → IfOk r (λ x. IsDeep ws x.depth)
+root-deep-ok ws mid p (Ok x) small is some same f = root-deep ws p x.depth small is some (subst (λ w. (h : Rests w p 6) → x.depth ≡ h.depth) same f)
 root-deep-ok ws mid p (Err e) small is some same f = tt
 
-pub root-few-ok : (ws mid : List ℕ) (es : List (ℕ × ℕ)) (p : ℕ) (r : Result Found Off) → IsIndex ws es → length ws ≤ 33554432 → p ≡ get_or ws 0 0 - 1 → get_or ws 0 0 ≢ 0 → mid ≡ ws → ((h : Rests mid p 5) → IfOk r (λ x. x.depth ≡ h.depth)) → IfOk r (λ x. x.depth ≤ 5)
-root-few-ok ws mid es p (Ok x) i small is some same f = root-few ws es p x.depth i small is some (subst (λ w. (h : Rests w p 5) → x.depth ≡ h.depth) same f)
+pub root-few-ok : (ws mid : List ℕ) (es : List (ℕ × ℕ)) (p : ℕ) (r : Result Found Off) → IsIndex ws es → length ws ≤ 536870912 → p ≡ get_or ws 0 0 - 1 → get_or ws 0 0 ≢ 0 → mid ≡ ws → ((h : Rests mid p 6) → IfOk r (λ x. x.depth ≡ h.depth)) → IfOk r (λ x. x.depth ≤ most_levels (length ws))
+root-few-ok ws mid es p (Ok x) i small is some same f = root-few ws es p x.depth i small is some (subst (λ w. (h : Rests w p 6) → x.depth ≡ h.depth) same f)
 root-few-ok ws mid es p (Err e) i small is some same f = tt
 
 -- no tree in so many words is deeper
-pub shallow-five : (ws : List ℕ) → length ws ≤ 33554432 → IsShallow ws 5
-shallow-five ws small free d t heap tree = depth-few ws free d t heap tree.stands.sized tree.all small
+pub shallow-most : (ws : List ℕ) → length ws ≤ 536870912 → IsShallow ws (most_levels (length ws))
+shallow-most ws small free d t heap tree = depth-few ws free d t heap tree.stands.sized tree.all small
 
 pub deep-shallow : (ws : List ℕ) (depth : ℕ) → IsDeep ws depth → IsShallow ws depth
 deep-shallow ws depth deep free d t heap tree = omega (arith, deep.levels free d t heap tree)

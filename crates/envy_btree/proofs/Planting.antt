@@ -155,7 +155,7 @@ pub record Enters (ws : List ℕ) (es : List (ℕ × ℕ)) (p level key value : 
   pub ready : (mid : List ℕ) (s : ℕ × ℕ) → Grows ws mid p level key value way.rests (Some s) → (free : List ℕ) × IsHeap mid free × (1 ≤ spare mid free)
   pub crowned : (mid new : List ℕ) (s : ℕ × ℕ) → Grows ws mid p level key value way.rests (Some s) → ((free : List ℕ) → IsHeap mid free → Crowned mid new free 1 (s.0 ∷ []) (p ∷ s.1 ∷ [])) → IsPlanted new (with_pair key value es) × (get_or new 3 0 ≡ get_or ws 3 0)
 
-enters-of : (ws : List ℕ) (es : List (ℕ × ℕ)) (p level key value : ℕ) (x : IsPlanted ws es) → IsShallow ws level → level ≤ 5 → length es ≤ most_pairs ws → key < 2 ^ 64 → p ≡ get_or ws 0 0 - 1 → get_or ws 0 0 ≢ 0 → Rooted ws x.free es → Enters ws es p level key value
+enters-of : (ws : List ℕ) (es : List (ℕ × ℕ)) (p level key value : ℕ) (x : IsPlanted ws es) → IsShallow ws level → level ≤ 6 → length es ≤ most_pairs ws → key < 2 ^ 64 → p ≡ get_or ws 0 0 - 1 → get_or ws 0 0 ≢ 0 → Rooted ws x.free es → Enters ws es p level key value
 enters-of ws es p level key value x small low few lt is some (inl e) = absurd (some e.0)
 enters-of ws es p level key value x small low few lt is some (inr t) =
     let here : piece_of t.0 t.1 ≡ p = omega (arith, t.2.root) in
@@ -176,7 +176,7 @@ enters-of ws es p level key value x small low few lt is some (inr t) =
           subst (λ e. IsPlanted new (with_pair key value e) × (get_or new 3 0 ≡ get_or ws 3 0)) (sym t.3) (crowned-planted ws mid new x.free (with_pair key value (pairs_of t.0 t.1)) t.0 t.1 t.2 b.0 d);
     }
 
-pub planted-enters : (ws : List ℕ) (es : List (ℕ × ℕ)) (p level key value : ℕ) → IsPlanted ws es → IsShallow ws level → level ≤ 5 → length es ≤ most_pairs ws → key < 2 ^ 64 → p ≡ get_or ws 0 0 - 1 → get_or ws 0 0 ≢ 0 → Enters ws es p level key value
+pub planted-enters : (ws : List ℕ) (es : List (ℕ × ℕ)) (p level key value : ℕ) → IsPlanted ws es → IsShallow ws level → level ≤ 6 → length es ≤ most_pairs ws → key < 2 ^ 64 → p ≡ get_or ws 0 0 - 1 → get_or ws 0 0 ≢ 0 → Enters ws es p level key value
 planted-enters ws es p level key value x small low few lt is some = enters-of ws es p level key value x small low few lt is some x.tree
 
 -- a node written into a piece just taken, and word 0

@@ -13,11 +13,11 @@ zeros-index size le = record {
   few = omega arith;
 }
 
-pub ready-new : {T E : Type 0} (f : T → Sheet) (size : ℕ) (r : Result T E) → IfOk r (λ v. (f v).words ≡ replicate size 0) → IfOk r (λ v. (f v).started ≡ false) → IfOk r (λ v. (f v).room ≡ 32) → 640 ≤ size → size ≤ 2 ^ 25 → IfOk r (λ v. IsReady (f v))
+pub ready-new : {T E : Type 0} (f : T → Sheet) (size : ℕ) (r : Result T E) → IfOk r (λ v. (f v).words ≡ replicate size 0) → IfOk r (λ v. (f v).started ≡ false) → IfOk r (λ v. (f v).room ≡ 32) → 640 ≤ size → size ≤ 2 ^ 29 → IfOk r (λ v. IsReady (f v))
 ready-new f size (Ok v) words shut room least most = record {
   shut = shut;
   room = omega (arith, room);
-  size = subst (λ w. length w ≤ 2 ^ 25) (sym words) (omega (arith, length-replicate {A = ℕ} size 0));
+  size = subst (λ w. length w ≤ 2 ^ 29) (sym words) (omega (arith, length-replicate {A = ℕ} size 0));
   map = ([], subst (λ w. IsIndex w []) (sym words) (zeros-index size least));
 }
 ready-new f size (Err e) words shut room least most = tt

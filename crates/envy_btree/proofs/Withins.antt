@@ -22,7 +22,7 @@ counted ws two n before es was x same is m =
 pub pairs-counted : (ws two : List ℕ) (key value n before : ℕ) (es : List (ℕ × ℕ)) (was : Option ℕ) → IsIndex ws es → two ≡ ws → was ≡ assoc key es → before ≡ get_or two 3 0 → MatchOption was (n ≡ before + 1) (λ _. n ≡ before) → n ≡ length (with_pair key value es)
 pairs-counted ws two key value n before es was x same found is m = count-of ws key value n es was x.planted found (counted ws two n before es was x same is m)
 
-pub before-fits : (ws two : List ℕ) (before : ℕ) (es : List (ℕ × ℕ)) → IsIndex ws es → two ≡ ws → before ≡ get_or two 3 0 → length ws ≤ 2 ^ 25 → before < 2 ^ 32
+pub before-fits : (ws two : List ℕ) (before : ℕ) (es : List (ℕ × ℕ)) → IsIndex ws es → two ≡ ws → before ≡ get_or two 3 0 → length ws ≤ 2 ^ 29 → before < 2 ^ 32
 before-fits ws two before es x same is size = count-fits ws es before x (is ∙ ap (λ w. get_or w 3 0) same) size
 
 pub within-full : (ws two : List ℕ) (key n before size most : ℕ) (es : List (ℕ × ℕ)) (was : Option ℕ) → IsIndex ws es → two ≡ ws → was ≡ assoc key es → before ≡ get_or two 3 0 → MatchOption was (n ≡ before + 1) (λ _. n ≡ before) → size ≡ length two → most ≡ 14 * ((size - 64) / 64 - 8) → most < n → IsFull ws key es

@@ -1,5 +1,5 @@
 -- What the calls of the index tree answer, and what they leave.
-use Rattle.std.specs.Prelude.{◌≡◌, ◌⊎◌, ℕ, false, IsTrue, List, ◌++◌, length, take, drop, Option, None, Result, Ok, Err}
+use Rattle.std.specs.Prelude.{◌≡◌, ◌⊎◌, ℕ, ◌+◌, false, IsTrue, List, ◌++◌, length, take, drop, Option, None, Result, Ok, Err}
 use Rattle.envy_base.specs.declared.board.Trouble.{Trouble}
 use Rattle.envy_base.specs.declared.board.Trouble.TheVariants.{Off as TroubleOff, Bad as TroubleBad}
 use Rattle.envy_base.specs.Words.{Sheet, Rose}
@@ -8,14 +8,15 @@ use Rattle.envy_btree.specs.declared.fault.LookFault.TheVariants.{Off as LookOff
 use Rattle.envy_btree.specs.declared.fault.TreeFault.{TreeFault}
 use Rattle.envy_btree.specs.declared.fault.TreeFault.TheVariants.{Off as FaultOff, Full, Bad}
 use Rattle.envy_btree.specs.Pairs.{assoc, with_pair, without}
+use Rattle.envy_btree.specs.Depths.{dropping_puts, insertion_puts}
 use Rattle.envy_btree.specs.Index.{IsIndex, most_pairs}
 
--- The most puts that a change is worth, with the transaction that it opens as one of them.
-abbrev pub insert_puts : ℕ
-insert_puts = 842
+-- The most puts that a change in so many words is worth, with the transaction that it opens as one of them.
+abbrev pub insert_puts : ℕ → ℕ
+insert_puts words = insertion_puts words + 1
 
-abbrev pub removal_puts : ℕ
-removal_puts = 1090
+abbrev pub removal_puts : ℕ → ℕ
+removal_puts words = dropping_puts words + 1
 
 -- the map has no room for this key
 abbrev pub IsFull : List ℕ → ℕ → List (ℕ × ℕ) → Type 0

@@ -48,7 +48,7 @@ pub record IsUnder (ws : List ℕ) (es : List (ℕ × ℕ)) (piece low top level
   pub root : Bool
   pub depth : ℕ
   pub tree : Tree depth
-  pub few : depth + levels ≤ 5
+  pub few : depth + levels ≤ 6
   pub is : piece_of depth tree ≡ piece
   pub stands : Stands ws free root low (top + 1) depth tree
   pub before : List (ℕ × ℕ)

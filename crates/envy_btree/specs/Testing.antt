@@ -7,5 +7,5 @@ use Rattle.envy_btree.specs.Index.{IsIndex}
 pub record IsReady (s : Sheet) : Type 0 where
   pub shut : s.started ≡ false
   pub room : 32 ≤ s.room
-  pub size : length s.words ≤ 2 ^ 25
+  pub size : length s.words ≤ 2 ^ 29
   pub map : (es : List (ℕ × ℕ)) × IsIndex s.words es

@@ -34,7 +34,7 @@ struct Head {
 /// The leaf to which a key belongs, or none if the words have no root. Whatever they are, each node is looked at
 /// before it is used.
 pub(crate) fn leaf_for<W: Words>(words: &mut W, key: u64) -> Result<Option<Leaf>, LookFault>
-    requires size { length (W.sheet words.old).words ≤ 2 ^ 25 }
+    requires size { length (W.sheet words.old).words ≤ 2 ^ 29 }
     ensures looks { Looks (W.sheet words.old) (W.sheet words.new) }
     ensures power { Powers result (W.sheet words.new) }
     ensures around { IfOk result (λ r. IfSome r (λ x. (x.spot.low ≤ key) × (key ≤ x.spot.top))) }

@@ -1,3 +1,6 @@
+ghost use Rattle.std.specs.Prelude.{◌≡◌};
+ghost use Rattle.envy_btree.specs.Depths.{most_levels};
+
 // The numbers of the head, of pieces and of nodes.
 
 /// The fewest words that may stand for a map.
@@ -15,5 +18,15 @@ pub(crate) const SLOTS: u32 = 32;
 /// A node's first word, `2 * n` or `2 * n + 1` of at most 31 keys, is below this.
 pub(crate) const HEAD_LIMIT: u64 = 64;
 
-/// The most levels of nodes in `2^25` words.
-pub(crate) const LEVELS: u32 = 6;
+/// The most levels of nodes in `2^29` words.
+pub(crate) const LEVELS: u32 = 7;
+
+// So many words hold no tree with six levels of inner nodes.
+const FIVE_LEVELS: u32 = 1 << 25;
+
+/// The most levels of inner nodes in so many words, of at most `2^29`.
+pub(crate) fn most_levels(words: u32) -> u32
+    ensures { result ≡ most_levels words }
+{
+    if words > FIVE_LEVELS { 6 } else { 5 }
+}

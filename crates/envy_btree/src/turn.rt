@@ -37,7 +37,7 @@ pub(crate) fn take_turn<W: Words>(
     out: &mut [(u64, u64)],
     filled: usize,
 ) -> Result<Turn, LookFault>
-    requires size { length (W.sheet words.old).words ≤ 2 ^ 25 }
+    requires size { length (W.sheet words.old).words ≤ 2 ^ 29 }
     requires room { filled ≤ length out.old }
     ensures looks { Looks (W.sheet words.old) (W.sheet words.new) }
     ensures power { Powers result (W.sheet words.new) }

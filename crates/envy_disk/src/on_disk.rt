@@ -1,4 +1,4 @@
-ghost use Rattle.std.specs.Prelude.{◌≡◌, Bool, IsTrue, IfOk, OnOk};
+ghost use Rattle.std.specs.Prelude.{◌≡◌, IfOk, OnOk};
 ghost use Rattle.envy_disk.specs.Disk.{Syncs};
 ghost use Rattle.envy_disk.specs.declared.on_disk.Compaction.TheVariants.{Done, Appended};
 ghost use Rattle.envy_map.specs.Fields.{Chart, chart};
@@ -23,8 +23,8 @@ pub trait OnDisk: Board {
     /// It takes no more there than what the board holds takes, however much was done to it.
     ghost is_compact: { Chart → Type 0 };
 
-    /// The last compaction of it that was tried was hindered.
-    ghost is_hindered: { Self → Bool };
+    /// What the numbers tell: a compaction of it has been hindered.
+    ghost is_hindered: { Chart → Type 0 };
 
     /// Brings the board to the disk. If it fails, power is off.
     fn sync(&mut self) -> Result<(), Off>
@@ -36,5 +36,5 @@ pub trait OnDisk: Board {
         ensures answer { Syncs (Self.state self.old) result (Self.state self.new) }
         ensures synced { OnOk result (is_synced (chart (Self.state self.new))) }
         ensures compact { IfOk result (λ made. made ≡ Done → is_compact (chart (Self.state self.new))) }
-        ensures hindered { IfOk result (λ made. made ≡ Appended → IsTrue (is_hindered self.new)) };
+        ensures hindered { IfOk result (λ made. made ≡ Appended → is_hindered (chart (Self.state self.new))) };
 }

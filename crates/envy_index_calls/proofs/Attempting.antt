@@ -50,7 +50,7 @@ pub record Viewed (range : EnvyMap) (old mid : Sheet) : Type 0 where
 fits-in : (range : EnvyMap) (s : Sheet) → IsRange range (length s.words) → range.first + range.words ≤ length s.words
 fits-in range s r = r.fits
 
-pub size-in : (range : EnvyMap) (s : Sheet) → IsRange range (length s.words) → length (view_of range s).words ≤ 2 ^ 25
+pub size-in : (range : EnvyMap) (s : Sheet) → IsRange range (length s.words) → length (view_of range s).words ≤ 2 ^ 29
 size-in range s r = omega (arith, r.most, inside-long range.first range.words s.words r.fits)
 
 pub least-in : (range : EnvyMap) (s : Sheet) → IsRange range (length s.words) → 640 ≤ length (view_of range s).words

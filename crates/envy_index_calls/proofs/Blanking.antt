@@ -8,7 +8,7 @@ use Rattle.envy_heap.proofs.Heaps.{one-ge}
 use Rattle.envy_btree.specs.Index.{IsIndex}
 use Rattle.envy_index_calls.specs.Indexed.{blanked_to, blanked}
 use Rattle.envy_index_calls.specs.Ranged.{marked}
-use Rattle.envy_index_calls.specs.declared.making.TheConstants.{MAP_MARK}
+use Rattle.envy_index_calls.specs.declared.creation.TheConstants.{MAP_MARK}
 
 -- one word more is blank
 pub blanked-more : (n : ℕ) (ws : List ℕ) → blanked_to (n + 1) ws ≡ set (blanked_to n ws) n 0

@@ -1,5 +1,5 @@
 -- A memory that was lent as words, and what the tree's calls say of it.
-use Rattle.std.proofs.Common.{◌≡◌, ◌≢◌, ◌⊎◌, inl, inr, ℕ, ◌^◌, ◌<◌, ◌≤◌, Bool, true, false, List, [], length, refl, sym, ◌∙◌, ap, subst, arith}
+use Rattle.std.proofs.Common.{◌≡◌, ◌≢◌, ◌⊎◌, inl, inr, ℕ, ◌*◌, ◌^◌, ◌<◌, ◌≤◌, Bool, true, false, List, [], length, refl, sym, ◌∙◌, ap, subst, arith}
 use Rattle.std.specs.Prelude.{◌&&◌, IsTrue, IfOk, Option, None, Some, Result, Ok, Err, replicate}
 use Rattle.std.specs.Option.{ForSome}
 use Rattle.std.proofs.lemmas.List.{ext_get_or, length-replicate, get_or-replicate}
@@ -7,6 +7,7 @@ use Rattle.envy_base.specs.Array.{Array, Saved, IsArray, slot_of}
 use Rattle.envy_base.specs.Words.{Sheet, Works as SheetWorks, Spends, Keeps, Rose}
 use Rattle.envy_base.specs.declared.board.Trouble.{Trouble}
 use Rattle.envy_base.specs.declared.board.Trouble.TheVariants.{Off as TroubleOff, Bad as TroubleBad}
+use Rattle.envy_base.specs.declared.page.TheConstants.{PAGE_WORDS}
 use Rattle.envy_base.specs.declared.shape.Shape.{Shape}
 use Rattle.envy_btree.specs.Answers.{IsFull, IsWritten, Gets as TreeGets, Counts as TreeCounts, Finds as TreeFinds, Inserts as TreeInserts, Removes as TreeRemoves}
 use Rattle.envy_btree.specs.Index.{IsIndex}
@@ -68,7 +69,7 @@ pub started-in : (old : Option Picture) (p : Picture) (b : Bool) → Lent old p 
 started-in old p b l = and-shut p.chart.on b (Lent.shut l)
 
 -- they are few enough
-pub size-in : (old : Option Picture) (p : Picture) (b : Bool) → Lent old p b → length (sheet_of p b).words ≤ 2 ^ 25
+pub size-in : (old : Option Picture) (p : Picture) (b : Bool) → Lent old p b → length (sheet_of p b).words ≤ 2 ^ 29
 size-in old p b l = let n = words_long (p.chart.on && b) p.chart in let few = MayServe.few (Lent.may l) in omega arith
 
 -- and enough
@@ -154,7 +155,7 @@ may-serve p sh c d b (m, stands) same same_too is pages few shadows closed shut 
     }
 
 -- the call was made
-pub asks : (puts : ℕ) (Tells : Pairs → Picture → Picture → Code → Type 0) (old new : Option Picture) (p q : Picture) (b : Bool) (code : Code) → Lent old p b → new ≡ Some q → Works puts p q → ((es : Pairs) → HoldsMap p es → Tells es p q code) → Asks puts old new (number_of code) Tells
+pub asks : (puts : ℕ → ℕ) (Tells : Pairs → Picture → Picture → Code → Type 0) (old new : Option Picture) (p q : Picture) (b : Bool) (code : Code) → Lent old p b → new ≡ Some q → Works (puts (PAGE_WORDS * p.chart.shape.pages)) p q → ((es : Pairs) → HoldsMap p es → Tells es p q code) → Asks puts old new (number_of code) Tells
 asks puts Tells old new p q b code l is works tells = subst (λ (o : Option Picture). Asks puts o new (number_of code) Tells) (sym (Lent.is l)) (q, code, is, refl, works, tells)
 
 pub creates : (old new : Option Picture) (p q : Picture) (b : Bool) (code : Code) → Lent old p b → new ≡ Some q → Works creation_puts p q → Creates p q code → DoesCreate old new (number_of code)

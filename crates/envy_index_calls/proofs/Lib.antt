@@ -1,5 +1,6 @@
 pub mod Attempting
 pub mod Blanking
+pub mod Checking
 pub mod Denying
 pub mod Lending
 pub mod Parts

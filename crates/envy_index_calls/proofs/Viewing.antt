@@ -57,7 +57,7 @@ off-and : (on : Bool) → (on && false) ≡ false
 off-and true = refl
 off-and false = refl
 
-keeps : (old : Option Picture) (range : EnvyMap) (p q : Picture) (b d : Bool) → Looked old range p q b d → IsTrue q.chart.on → Keeps p q
+pub keeps : (old : Option Picture) (range : EnvyMap) (p q : Picture) (b d : Bool) → Looked old range p q b d → IsTrue q.chart.on → Keeps p q
 keeps old range p q b d l on = record {
   words = sym (words-live d q (back-held q d l.back on)) ∙ all-stay range (sheet_of p b) (sheet_of q d) l.fits on l.viewed (l.same on) ∙ words-live b p l.given.held;
   kept = l.viewed.kept;

@@ -6,6 +6,7 @@ use Rattle.envy_base.specs.Words.{Sheet, Rose}
 use Rattle.envy_base.specs.declared.board.Trouble.{Trouble}
 use Rattle.envy_base.specs.declared.board.Trouble.TheVariants.{Off as TroubleOff, Bad as TroubleBad}
 use Rattle.envy_base.specs.declared.fields.Slot.TheVariants.{Active}
+use Rattle.envy_base.specs.declared.page.TheConstants.{PAGE_WORDS}
 use Rattle.envy_map.specs.Fields.{Chart, slot as slot_of}
 use Rattle.envy_layout.specs.Stands.{Stands}
 use Rattle.envy_layout.specs.Words.{durable}
@@ -105,9 +106,9 @@ Lends (Some p) new (Err code) = (new ≡ Some p) × Declines p code
 
 -- In a place: its memory's change of a map, which tells this of each map that the memory holds, and is worth so many puts at
 -- most; without a memory that is the answer.
-abbrev pub Asks : ℕ → Option Picture → Option Picture → ℕ → (Pairs → Picture → Picture → Code → Type 0) → Type 0
+abbrev pub Asks : (ℕ → ℕ) → Option Picture → Option Picture → ℕ → (Pairs → Picture → Picture → Code → Type 0) → Type 0
 Asks puts None new number Tells = (new ≡ None) × (number ≡ number_of Empty)
-Asks puts (Some p) new number Tells = (q : Picture) × (code : Code) × (new ≡ Some q) × (number ≡ number_of code) × Works puts p q × ((es : Pairs) → HoldsMap p es → Tells es p q code)
+Asks puts (Some p) new number Tells = (q : Picture) × (code : Code) × (new ≡ Some q) × (number ≡ number_of code) × Works (puts (PAGE_WORDS * p.chart.shape.pages)) p q × ((es : Pairs) → HoldsMap p es → Tells es p q code)
 
 -- power failed in a call that changes no word
 abbrev pub Loses : Picture → Picture → Type 0

@@ -1,4 +1,5 @@
 pub mod Attempts
+pub mod Checked
 pub mod Indexed
 pub mod Ranged
 pub mod Ranges

@@ -17,7 +17,7 @@ use Rattle.envy_calls.specs.declared.code.Code.TheVariants.{Done, Empty, Off as 
 use Rattle.envy_index_calls.specs.Attempts.{change_code}
 use Rattle.envy_index_calls.specs.Indexed.{IsShut, Loses, Pairs, Works, blanked, old_of}
 use Rattle.envy_index_calls.specs.Ranges.{Denies, HasFirst, IsOpen, IsRange, MayHold, words_beside, words_in}
-use Rattle.envy_index_calls.specs.declared.making.TheConstants.{MAP_MARK}
+use Rattle.envy_index_calls.specs.declared.creation.TheConstants.{MAP_MARK}
 use Rattle.envy_index_calls.specs.declared.pairs.EnvyOld.{EnvyOld}
 use Rattle.envy_index_calls.specs.declared.ranges.EnvyMap.{EnvyMap}
 use Rattle.envy_index_calls.specs.declared.ranges.Whose.TheVariants.{New, Slot, Any}
@@ -58,13 +58,6 @@ abbrev pub Kept : EnvyMap → (Pairs → Code → Type 0) → Picture → Pictur
 Kept range Says p q code = KeepsIn range p q code × ((es : Pairs) → IsIndex (words_in range p) es → Says es code)
 
 -- ---- changes
-
--- the most puts of an insert and of a removal, after which the transaction may be aborted
-abbrev pub insertion_puts : ℕ
-insertion_puts = 841
-
-abbrev pub dropping_puts : ℕ
-dropping_puts = 1089
 
 -- A change that was made leaves the words outside its range. None is kept before the transaction is.
 pub record Changes (range : EnvyMap) (p q : Picture) : Type 0 where

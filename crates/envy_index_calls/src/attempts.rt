@@ -1,14 +1,14 @@
 // Changes in a range of words within their open transaction, which is undone if a flash operation fails.
 ghost use Rattle.std.specs.Prelude.{◌≡◌, ◌+◌, ◌≤◌, ℕ, List, [], length, IsTrue, OnOk, None, Ok};
 ghost use Rattle.envy_base.specs.Words.{Spends};
-ghost use Rattle.envy_btree.specs.Depths.{insertion_pages, removal_pages};
+ghost use Rattle.envy_btree.specs.Depths.{dropping_puts, insertion_pages, insertion_puts, removal_pages};
 ghost use Rattle.envy_btree.specs.Index.{IsIndex};
 ghost use Rattle.envy_btree.specs.Within.{InsertsWithin, RemovesWithin};
 ghost use Rattle.envy_index_calls.specs.Attempts.{Attempts, HasFailed, IsRoomless, Settles, Steady, view_of};
 ghost use Rattle.envy_index_calls.specs.Ranged.{marked};
 ghost use Rattle.envy_index_calls.specs.Ranges.{IsRange};
 
-use crate::making::mark_blank;
+use crate::creation::mark_blank;
 use crate::ranges::EnvyMap;
 use envy_base::{Trouble, Words};
 use envy_btree::{ChangeFault, insert_within, remove_within};
@@ -40,7 +40,7 @@ pub fn insert_in<W: Words>(
     requires range { IsRange range (length (W.sheet words).words) }
     requires map { (es : List (ℕ × ℕ)) × IsIndex (view_of range (W.sheet words)).words es }
     ensures steady { Steady (W.sheet words) (W.sheet result.0) }
-    ensures spends { Spends 841 (W.sheet words) (W.sheet result.0) }
+    ensures spends { Spends (insertion_puts range.words) (W.sheet words) (W.sheet result.0) }
     ensures attempts { Attempts range (W.sheet words) result.1 (W.sheet result.0) }
     ensures inserts { (es : List (ℕ × ℕ)) → IsIndex (view_of range (W.sheet words)).words es
         → InsertsWithin key value es insertion_pages left (view_of range (W.sheet words)) result.1 (view_of range (W.sheet result.0)) }
@@ -69,7 +69,7 @@ pub fn remove_in<W: Words>(
     requires range { IsRange range (length (W.sheet words).words) }
     requires map { (es : List (ℕ × ℕ)) × IsIndex (view_of range (W.sheet words)).words es }
     ensures steady { Steady (W.sheet words) (W.sheet result.0) }
-    ensures spends { Spends 1089 (W.sheet words) (W.sheet result.0) }
+    ensures spends { Spends (dropping_puts range.words) (W.sheet words) (W.sheet result.0) }
     ensures absent { result.1 ≡ Ok None → (W.sheet result.0).words ≡ (W.sheet words).words }
     ensures attempts { Attempts range (W.sheet words) result.1 (W.sheet result.0) }
     ensures removes { (es : List (ℕ × ℕ)) → IsIndex (view_of range (W.sheet words)).words es

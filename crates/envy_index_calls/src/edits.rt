@@ -1,15 +1,16 @@
 // Changes of maps in ranges, within a transaction.
 ghost use Rattle.std.specs.Prelude.{◌≡◌, ◌≢◌};
 ghost use Rattle.std.specs.Option.{ForSome};
+ghost use Rattle.envy_btree.specs.Depths.{dropping_puts, insertion_puts};
 ghost use Rattle.envy_calls.specs.Codes.{number_of};
 ghost use Rattle.envy_calls.specs.declared.code.Code.TheVariants.{Done};
 ghost use Rattle.envy_index_calls.specs.Attempts.{change_code};
 ghost use Rattle.envy_index_calls.specs.Indexed.{creation_puts, old_of};
-ghost use Rattle.envy_index_calls.specs.Ranged.{Calls, Changed, CreatesIn, Drops, HoldsMapIn, Sets, TellsDrop, TellsMade, TellsSet, insertion_puts, dropping_puts};
+ghost use Rattle.envy_index_calls.specs.Ranged.{Calls, Changed, CreatesIn, Drops, HoldsMapIn, Sets, TellsDrop, TellsMade, TellsSet};
 ghost use Rattle.envy_index_calls.specs.Ranges.{MayHold};
 
 use crate::attempts::{create_in, insert_in, remove_in};
-use crate::changing::old;
+use crate::changes::old;
 use crate::pairs::EnvyOld;
 use crate::ranges::{EnvyMap, Whose, give_back, lend};
 use envy_base::Board;
@@ -91,7 +92,7 @@ pub fn map_insert<B: Board + Drop>(
     before: &mut EnvyOld,
 ) -> Code
     requires { ForSome place.old (HoldsMapIn range) }
-    ensures inserts { Calls insertion_puts (Changed slot range (Sets key value before.new range)) place.old place.new (number_of result) }
+    ensures inserts { Calls (insertion_puts range.words) (Changed slot range (Sets key value before.new range)) place.old place.new (number_of result) }
     ensures unwritten { result ≢ Done → before.new ≡ before.old }
 {
     let words = match lend(place, Whose::Slot(slot), Some(range)) {
@@ -113,7 +114,7 @@ pub fn map_remove<B: Board + Drop>(
     value: &mut u64,
 ) -> Code
     requires { ForSome place.old (HoldsMapIn range) }
-    ensures removes { Calls dropping_puts (Changed slot range (Drops key value.new range)) place.old place.new (number_of result) }
+    ensures removes { Calls (dropping_puts range.words) (Changed slot range (Drops key value.new range)) place.old place.new (number_of result) }
     ensures unwritten { result ≢ Done → value.new ≡ value.old }
 {
     let words = match lend(place, Whose::Slot(slot), Some(range)) {

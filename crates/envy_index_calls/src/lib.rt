@@ -6,26 +6,28 @@
 //! several maps.
 #![tactic(auto)]
 
-mod asking;
 mod attempts;
-mod changing;
+mod changes;
+mod checks;
+mod creation;
 mod edits;
-mod filling;
-mod making;
+mod lookups;
+mod pair_buffer;
 mod pairs;
 mod ranges;
-mod scanning;
+mod scans;
 mod transactions;
 mod views;
 mod words;
 
-pub use asking::{above, count, get, last, next};
-pub use changing::{insert, remove};
+pub use changes::{insert, remove};
+pub use checks::map_check;
+pub use creation::{MAP_MARK, create};
 pub use edits::{map_create, map_insert, map_remove};
-pub use making::{MAP_MARK, create};
+pub use lookups::{above, count, get, last, next};
 pub use pairs::{EnvyOld, EnvyPair};
 pub use ranges::EnvyMap;
-pub use scanning::{scan, scan_down};
+pub use scans::{scan, scan_down};
 pub use transactions::{map_abort, map_begin, map_commit};
 pub use views::{map_count, map_get, map_scan, map_scan_down};
 pub use words::MOST_MAP_PAGES;

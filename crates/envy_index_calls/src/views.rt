@@ -9,11 +9,11 @@ ghost use Rattle.envy_index_calls.specs.Ranged.{Calls, Kept};
 ghost use Rattle.envy_index_calls.specs.Ranges.{MayHold};
 ghost use Rattle.envy_index_calls.specs.Scanned.{pairs_in};
 
-use crate::asking::{told_count, told_value};
-use crate::filling::fill;
+use crate::lookups::{told_count, told_value};
+use crate::pair_buffer::fill;
 use crate::pairs::EnvyPair;
 use crate::ranges::{EnvyMap, Whose, give_back, lend};
-use crate::scanning::told as told_scan;
+use crate::scans::told as told_scan;
 use envy_base::Board;
 use envy_btree::Way;
 use envy_calls::Code;

@@ -17,8 +17,8 @@ const LEAST_PAGES: u32 = 20;
 
 const LEAST_SHADOWS: u32 = 32;
 
-/// The most pages of an array that holds a map: no key is more than six nodes deep in it.
-pub const MOST_MAP_PAGES: u32 = 1 << 20;
+/// The most pages of an array that holds a map: no key is more than seven nodes deep in it.
+pub const MOST_MAP_PAGES: u32 = 1 << 24;
 
 /// Whether one of the 64 slots is open, of those from one on.
 pub fn has_open_slot<B: Board>(board: &B, first: u8) -> Result<bool, Off>

@@ -38,8 +38,8 @@ use Rattle.envy_run.specs.Tells.{Telling}
 use Rattle.envy_run.proofs.Hitting.{telling-more}
 use Rattle.envy_run.proofs.Noting.{notes-empty}
 use Rattle.envy_run.proofs.Obeying.{answered}
-use Rattle.envy_run.specs.declared.answering.Beside.{Beside}
-use Rattle.envy_run.specs.declared.answering.Beside.TheVariants.{Nothing, Power as OfPower, Plan as OfPlan}
+use Rattle.envy_run.specs.declared.answers.Beside.{Beside}
+use Rattle.envy_run.specs.declared.answers.Beside.TheVariants.{Nothing, Power as OfPower, Plan as OfPlan}
 use Rattle.envy_base.specs.declared.faults.PlannedFault.TheVariants.{Cut as PlanCut, Bad as PlanBad}
 use Rattle.envy_keep.specs.Answers.{AnswersKeep, SyncsTo, TraceAnswers}
 use Rattle.envy_keep.specs.Playing.{ShowsMemory}

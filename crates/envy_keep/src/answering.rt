@@ -2,7 +2,7 @@ ghost use Rattle.std.specs.Prelude.{◌≡◌, IfOk, IsTrue, Err};
 ghost use Rattle.envy_keep.specs.Answers.{AnswersKeep, SyncsTo};
 ghost use Rattle.envy_keep_trace.specs.declared.keep_line.KeepLine.TheVariants.{Trace};
 ghost use Rattle.envy_run.specs.Answers.{line_beside};
-ghost use Rattle.envy_run.specs.declared.answering.Beside.{Beside};
+ghost use Rattle.envy_run.specs.declared.answers.Beside.{Beside};
 
 use envy_base::Off;
 use envy_device::Place;

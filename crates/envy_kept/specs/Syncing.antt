@@ -11,7 +11,7 @@ use Rattle.envy_kept.specs.Codes.{number_of_kept}
 use Rattle.envy_kept.specs.declared.code.KeptCode.{KeptCode}
 use Rattle.envy_kept.specs.declared.code.KeptCode.TheVariants.{Of, Appended}
 use Rattle.envy_memory.specs.Picture.{Picture}
-use Rattle.envy_synced.specs.Disk.{IsCompact, IsSynced}
+use Rattle.envy_synced.specs.Disk.{IsCompact, IsHindered, IsSynced}
 
 abbrev pub sync_code : Result Unit OffBoard → Code
 sync_code (Ok done) = Done
@@ -42,6 +42,7 @@ pub record CompactsTo (p q : Picture) (code : ℕ) : Type 0 where
   pub syncs : SyncsChart p.chart answer q.chart
   pub synced : OnOk answer (IsSynced q.chart)
   pub compact : IfOk answer (λ made. made ≡ compaction.Done → IsCompact q.chart)
+  pub hindered : IfOk answer (λ made. made ≡ compaction.Appended → IsHindered q.chart)
   pub kept : q ≡ record p { chart = q.chart }
 
 abbrev pub DoesCompact : Option Picture → Option Picture → ℕ → Type 0

@@ -1,11 +1,13 @@
 // Maps in ranges of the array of a memory, and transactions of several, by numbers.
 ghost use Rattle.std.specs.Prelude.{◌≡◌, ◌≢◌, ◌≤◌, length, drop};
 ghost use Rattle.std.specs.Option.{ForSome};
+ghost use Rattle.envy_btree.specs.Depths.{dropping_puts, insertion_puts};
 ghost use Rattle.envy_btree.specs.Nearest.{pairs_from, pairs_to};
 ghost use Rattle.envy_calls.specs.Codes.{number_of};
-ghost use Rattle.envy_calls.specs.declared.code.Code.TheVariants.{Done};
+ghost use Rattle.envy_calls.specs.declared.code.Code.TheVariants.{Done, BrokenMap};
+ghost use Rattle.envy_index_calls.specs.Checked.{Checks};
 ghost use Rattle.envy_index_calls.specs.Indexed.{Counts, Gets, Scans, creation_puts};
-ghost use Rattle.envy_index_calls.specs.Ranged.{Aborts, Calls, Changed, Commits, CreatesIn, Drops, HoldsMapIn, Kept, Sets, Starts, dropping_puts, insertion_puts};
+ghost use Rattle.envy_index_calls.specs.Ranged.{Aborts, Calls, Changed, Commits, CreatesIn, Drops, HoldsMapIn, Kept, Sets, Starts};
 ghost use Rattle.envy_index_calls.specs.Ranges.{MayHold};
 ghost use Rattle.envy_index_calls.specs.Scanned.{pairs_in};
 ghost use Rattle.envy_mapped.specs.Steady.{AreSteady};
@@ -13,8 +15,8 @@ ghost use denote.RawPtr.{InBlock};
 
 use crate::handle::{EnvyMapped, give_back, lend};
 use envy_index_calls::{
-    EnvyMap, EnvyOld, EnvyPair, map_abort, map_begin, map_commit, map_count, map_create, map_get,
-    map_insert, map_remove, map_scan, map_scan_down,
+    EnvyMap, EnvyOld, EnvyPair, map_abort, map_begin, map_check, map_commit, map_count, map_create,
+    map_get, map_insert, map_remove, map_scan, map_scan_down,
 };
 
 /// Begins a transaction of maps, and answers its slot, which is the first. No slot may be open.
@@ -63,7 +65,7 @@ pub extern "C" fn envy_map_insert(
     requires map { ForSome m.old.slot.now (HoldsMapIn range.now) }
     ensures live { InBlock m.new.at }
     ensures steady { AreSteady m.old.slot.now m.new.slot.now }
-    ensures inserts { Calls insertion_puts (Changed slot range.now (Sets key value before.new range.now)) m.old.slot.now m.new.slot.now result }
+    ensures inserts { Calls (insertion_puts range.now.words) (Changed slot range.now (Sets key value before.new range.now)) m.old.slot.now m.new.slot.now result }
     ensures unwritten { result ≢ number_of Done → before.new ≡ before.old }
 {
     let place = lend(m);
@@ -85,7 +87,7 @@ pub extern "C" fn envy_map_remove(
     requires map { ForSome m.old.slot.now (HoldsMapIn range.now) }
     ensures live { InBlock m.new.at }
     ensures steady { AreSteady m.old.slot.now m.new.slot.now }
-    ensures removes { Calls dropping_puts (Changed slot range.now (Drops key value.new range.now)) m.old.slot.now m.new.slot.now result }
+    ensures removes { Calls (dropping_puts range.now.words) (Changed slot range.now (Drops key value.new range.now)) m.old.slot.now m.new.slot.now result }
     ensures unwritten { result ≢ number_of Done → value.new ≡ value.old }
 {
     let place = lend(m);
@@ -157,6 +159,23 @@ pub extern "C" fn envy_map_count(m: &mut EnvyMapped, range: &EnvyMap, number: &m
 {
     let place = lend(m);
     let code = map_count(place, *range, number);
+    give_back(m, place);
+    code.number()
+}
+
+/// Whether the words of a range stand for a map, whatever they are, in time linear in them. After `ENVY_BROKEN_MAP` the
+/// number of the first rule that they break is written.
+#[unsafe(no_mangle)]
+pub extern "C" fn envy_map_check(m: &mut EnvyMapped, range: &EnvyMap, rule: &mut u32) -> u32
+    requires place { InBlock m.old.at }
+    requires array { ForSome m.old.slot.now MayHold }
+    ensures live { InBlock m.new.at }
+    ensures steady { AreSteady m.old.slot.now m.new.slot.now }
+    ensures checks { Calls 0 (Checks range.now rule.new) m.old.slot.now m.new.slot.now result }
+    ensures unwritten { result ≢ number_of BrokenMap → rule.new ≡ rule.old }
+{
+    let place = lend(m);
+    let code = map_check(place, *range, rule);
     give_back(m, place);
     code.number()
 }

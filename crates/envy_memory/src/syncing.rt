@@ -1,6 +1,6 @@
 ghost use Rattle.std.specs.Prelude.{◌≡◌, IfOk, OnOk};
 ghost use Rattle.envy_disk.specs.Disk.{SyncsChart};
-ghost use Rattle.envy_disk.specs.declared.on_disk.Compaction.TheVariants.{Done};
+ghost use Rattle.envy_disk.specs.declared.on_disk.Compaction.TheVariants.{Done, Appended};
 
 use crate::memory::Memory;
 use envy_base::Off;
@@ -32,6 +32,7 @@ impl<B: OnDisk> Memory<B> {
         ensures kept { self.new ≡ record self.old { chart = self.new.chart } }
         ensures synced { OnOk result (B.is_synced self.new.chart) }
         ensures compact { IfOk result (λ made. made ≡ Done → B.is_compact self.new.chart) }
+        ensures hindered { IfOk result (λ made. made ≡ Appended → B.is_hindered self.new.chart) }
     {
         self.board.compact()
     }

@@ -39,17 +39,18 @@ compaction_code (Ok compaction.Appended) = Appended
 compaction_code (Err off) = Of Off
 
 -- A sync that leaves no more in the file than a snapshot, or says that this was hindered.
-pub record CompactsTo (Synced Compact : Chart → Type 0) (p q : Picture) (code : ℕ) : Type 0 where
+pub record CompactsTo (Synced Compact Hindered : Chart → Type 0) (p q : Picture) (code : ℕ) : Type 0 where
   pub answer : Result Compaction OffBoard
   pub coded : code ≡ number_of_place (compaction_code answer)
   pub syncs : SyncsChart p.chart answer q.chart
   pub synced : OnOk answer (Synced q.chart)
   pub compact : IfOk answer (λ made. made ≡ compaction.Done → Compact q.chart)
+  pub hindered : IfOk answer (λ made. made ≡ compaction.Appended → Hindered q.chart)
   pub kept : q ≡ record p { chart = q.chart }
 
-abbrev pub DoesCompact : (Chart → Type 0) → (Chart → Type 0) → Option Picture → Option Picture → ℕ → Type 0
-DoesCompact Synced Compact None new code = (new ≡ None) × (code ≡ number_of Empty)
-DoesCompact Synced Compact (Some p) new code = (q : Picture) × (new ≡ Some q) × CompactsTo Synced Compact p q code
+abbrev pub DoesCompact : (Chart → Type 0) → (Chart → Type 0) → (Chart → Type 0) → Option Picture → Option Picture → ℕ → Type 0
+DoesCompact Synced Compact Hindered None new code = (new ≡ None) × (code ≡ number_of Empty)
+DoesCompact Synced Compact Hindered (Some p) new code = (q : Picture) × (new ≡ Some q) × CompactsTo Synced Compact Hindered p q code
 
 -- whether a memory is held whose power is on, as a number
 abbrev pub DoesTellPower : Option Picture → ℕ → Type 0

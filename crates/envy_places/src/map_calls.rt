@@ -1,11 +1,13 @@
 // Maps in ranges of the array of a memory, and transactions of several, whatever the memory stands over.
 ghost use Rattle.std.specs.Prelude.{◌≡◌, ◌≢◌, ◌≤◌, length, drop};
 ghost use Rattle.std.specs.Option.{ForSome};
+ghost use Rattle.envy_btree.specs.Depths.{dropping_puts, insertion_puts};
 ghost use Rattle.envy_btree.specs.Nearest.{pairs_from, pairs_to};
 ghost use Rattle.envy_calls.specs.Codes.{number_of};
-ghost use Rattle.envy_calls.specs.declared.code.Code.TheVariants.{Done};
+ghost use Rattle.envy_calls.specs.declared.code.Code.TheVariants.{Done, BrokenMap};
+ghost use Rattle.envy_index_calls.specs.Checked.{Checks};
 ghost use Rattle.envy_index_calls.specs.Indexed.{Counts, Gets, Scans, creation_puts};
-ghost use Rattle.envy_index_calls.specs.Ranged.{Aborts, Calls, Changed, Commits, CreatesIn, Drops, HoldsMapIn, Kept, Sets, Starts, dropping_puts, insertion_puts};
+ghost use Rattle.envy_index_calls.specs.Ranged.{Aborts, Calls, Changed, Commits, CreatesIn, Drops, HoldsMapIn, Kept, Sets, Starts};
 ghost use Rattle.envy_index_calls.specs.Ranges.{MayHold};
 ghost use Rattle.envy_index_calls.specs.Scanned.{pairs_in};
 ghost use Rattle.envy_places.specs.Places.{AreAlike, held};
@@ -53,7 +55,7 @@ pub fn map_insert<R: Board + Drop, F: Board + Drop, S: Board + Drop>(
     before: &mut EnvyOld,
 ) -> Code
     requires { ForSome (held place.old) (HoldsMapIn range) }
-    ensures inserts { Calls insertion_puts (Changed slot range (Sets key value before.new range)) (held place.old) (held place.new) (number_of result) }
+    ensures inserts { Calls (insertion_puts range.words) (Changed slot range (Sets key value before.new range)) (held place.old) (held place.new) (number_of result) }
     ensures unwritten { result ≢ Done → before.new ≡ before.old }
     ensures alike { AreAlike place.old place.new }
 {
@@ -69,7 +71,7 @@ pub fn map_remove<R: Board + Drop, F: Board + Drop, S: Board + Drop>(
     value: &mut u64,
 ) -> Code
     requires { ForSome (held place.old) (HoldsMapIn range) }
-    ensures removes { Calls dropping_puts (Changed slot range (Drops key value.new range)) (held place.old) (held place.new) (number_of result) }
+    ensures removes { Calls (dropping_puts range.words) (Changed slot range (Drops key value.new range)) (held place.old) (held place.new) (number_of result) }
     ensures unwritten { result ≢ Done → value.new ≡ value.old }
     ensures alike { AreAlike place.old place.new }
 {
@@ -127,6 +129,21 @@ pub fn map_count<R: Board + Drop, F: Board + Drop, S: Board + Drop>(
     ensures alike { AreAlike place.old place.new }
 {
     on_each!(place, memory => envy_index_calls::map_count(memory, range, number))
+}
+
+/// Whether the words of a range stand for a map, whatever they are, in time linear in them. After `BrokenMap` the number
+/// of the first rule that they break is written.
+pub fn map_check<R: Board + Drop, F: Board + Drop, S: Board + Drop>(
+    place: &mut MemoryPlace<R, F, S>,
+    range: EnvyMap,
+    rule: &mut u32,
+) -> Code
+    requires { ForSome (held place.old) MayHold }
+    ensures checks { Calls 0 (Checks range rule.new) (held place.old) (held place.new) (number_of result) }
+    ensures unwritten { result ≢ BrokenMap → rule.new ≡ rule.old }
+    ensures alike { AreAlike place.old place.new }
+{
+    on_each!(place, memory => envy_index_calls::map_check(memory, range, rule))
 }
 
 /// Writes the pairs of the map in a range from a key on, by rising key, into `pairs`, and how many there are: as many as

@@ -40,7 +40,7 @@ fn compaction_answer(answer: Result<Compaction, Off>) -> PlaceCode
 }
 
 fn compact_of<F: OnDisk>(slot: &mut Option<Memory<F>>) -> u32
-    ensures { DoesCompact F.is_synced F.is_compact slot.old slot.new result }
+    ensures { DoesCompact F.is_synced F.is_compact F.is_hindered slot.old slot.new result }
 {
     let Some(memory) = slot else {
         return Code::Empty.number();
@@ -77,7 +77,7 @@ pub fn sync<R: Board, F: OnDisk, S: Board>(place: &mut MemoryPlace<R, F, S>) -> 
 
 /// The same, and leaves no more in the file than what the board holds takes, or says that this was hindered.
 pub fn compact<R: Board, F: OnDisk, S: Board>(place: &mut MemoryPlace<R, F, S>) -> u32
-    ensures { OnFile (DoesCompact F.is_synced F.is_compact) place.old place.new result }
+    ensures { OnFile (DoesCompact F.is_synced F.is_compact F.is_hindered) place.old place.new result }
 {
     match place {
         MemoryPlace::File(slot) => compact_of(slot),

@@ -13,9 +13,9 @@ use Rattle.envy_serve.specs.Turns.{Turn}
 use Rattle.envy_run.specs.Outcome.{Outcome, EndsBy, IsQuiet, ending_after, ending_of, numbers_of, outcome_of}
 use Rattle.envy_run.specs.Task.{Task, Session, MaybeServed, MaybeHeld, DoesTask, turns_of}
 use Rattle.envy_run.specs.Writing.{WritesAs, WritesOut, WritesTrace}
-use Rattle.envy_run.specs.declared.ending.Ending.{Ending}
-use Rattle.envy_run.specs.declared.ending.Ending.TheVariants.{Done, WordsRefused, ReadFault, WriteFault, LineRefused, PowerLost, FlashFailed, OutOfMemory, TooLong, ImageRefused, NotInstalled}
-use Rattle.envy_run.specs.declared.ending.Finished.{Finished}
+use Rattle.envy_run.specs.declared.endings.Ending.{Ending}
+use Rattle.envy_run.specs.declared.endings.Ending.TheVariants.{Done, WordsRefused, ReadFault, WriteFault, LineRefused, PowerLost, FlashFailed, OutOfMemory, TooLong, ImageRefused, NotInstalled}
+use Rattle.envy_run.specs.declared.endings.Finished.{Finished}
 use Rattle.envy_run.specs.Unserved.{IsDark, IsOutOfMemory, IsSpoilt, IsUnread, IsUnready}
 
 -- the lines lead to something that the boards hold

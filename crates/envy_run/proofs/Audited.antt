@@ -13,9 +13,9 @@ use Rattle.envy_run.specs.Loading.{HasFailed, IsTooLarge, RefusesImage, TookOnly
 use Rattle.envy_run.specs.Meaning.{Does}
 use Rattle.envy_run.specs.Outcome.{Outcome, EndsBy}
 use Rattle.envy_run.specs.Writing.{WritesTrace}
-use Rattle.envy_run.specs.declared.ending.Ending.TheVariants.{NotInstalled, OutOfMemory}
-use Rattle.envy_run.specs.declared.loading.Refusal.{Refusal}
-use Rattle.envy_run.specs.declared.loading.Refusal.TheVariants.{Failed, Memory, Early, Unmarked, Misshapen, Upset}
+use Rattle.envy_run.specs.declared.endings.Ending.TheVariants.{NotInstalled, OutOfMemory}
+use Rattle.envy_run.specs.declared.image_input.Refusal.{Refusal}
+use Rattle.envy_run.specs.declared.image_input.Refusal.TheVariants.{Failed, Memory, Early, Unmarked, Misshapen, Upset}
 use Rattle.envy_run.proofs.Checked.{shape-is}
 use Rattle.envy_run.proofs.Imaged.{never-early, never-unmarked, never-misshapen, shape-told}
 

@@ -46,8 +46,8 @@ use Rattle.envy_run.specs.Tracing.{long_any}
 use Rattle.envy_run.specs.Turns.{trace_grammar}
 use Rattle.envy_run.specs.Unserved.{IsDark, IsOutOfMemory, IsSpoilt, IsUnread, IsUnready}
 use Rattle.envy_run.specs.Writing.{WritesTrace}
-use Rattle.envy_run.specs.declared.ending.Ending.TheVariants.{Done, OutOfMemory, WordsRefused}
-use Rattle.envy_run.specs.declared.ending.Finished.{Finished}
+use Rattle.envy_run.specs.declared.endings.Ending.TheVariants.{Done, OutOfMemory, WordsRefused}
+use Rattle.envy_run.specs.declared.endings.Finished.{Finished}
 use Rattle.envy_run.proofs.Accounts.{Did, Died, WasDone, WasServed, done_of}
 use Rattle.envy_run.proofs.Audited.{completes-judging, image-taken, never-large}
 use Rattle.envy_run.proofs.MirrorWell.{completes-mirror}

@@ -34,9 +34,9 @@ use Rattle.envy_run.specs.Outcome.{Outcome, EndsBy, IsQuiet, numbers_of, outcome
 use Rattle.envy_run.specs.Prepares.{HasTried, IsBegun, IsPrepared, IsReady, NoneBegun, WasMade}
 use Rattle.envy_run.specs.Unserved.{IsUnready, IsUnserved}
 use Rattle.envy_run.specs.Writing.{WritesAs, WritesTrace}
-use Rattle.envy_run.specs.declared.ending.Ending.{Ending}
-use Rattle.envy_run.specs.declared.ending.Ending.TheVariants.{Done, FlashFailed, PowerLost, WriteFault}
-use Rattle.envy_run.specs.declared.ending.Finished.{Finished}
+use Rattle.envy_run.specs.declared.endings.Ending.{Ending}
+use Rattle.envy_run.specs.declared.endings.Ending.TheVariants.{Done, FlashFailed, PowerLost, WriteFault}
+use Rattle.envy_run.specs.declared.endings.Finished.{Finished}
 use Rattle.envy_run.proofs.Accounts.{unread}
 use Rattle.envy_run.proofs.Traced.{Began, adds-up, began-of}
 

@@ -25,7 +25,7 @@ use Rattle.envy_run.specs.Headline.{Headline, IsWithoutMemory, Licences, run_tas
 use Rattle.envy_run.specs.Outcome.{Outcome, EndsBy, IsQuiet, ending_of, numbers_of}
 use Rattle.envy_run.specs.Task.{Task}
 use Rattle.envy_run.specs.Unserved.{IsUnread, IsUnready}
-use Rattle.envy_run.specs.declared.ending.Ending.TheVariants.{OutOfMemory}
+use Rattle.envy_run.specs.declared.endings.Ending.TheVariants.{OutOfMemory}
 use Rattle.envy_run.proofs.Accounts.{Did, Died, WasDone, WasServed, done_of, never-unready}
 use Rattle.envy_run.specs.Turns.{TraceTurn, trace_grammar}
 use Rattle.envy_run.proofs.Alike.{OneAnswer, turns-alike}

@@ -17,7 +17,7 @@ use Rattle.envy_run.specs.Outcome.{Outcome, numbers_of, outcome, outcome_of, ref
 use Rattle.envy_run.specs.Theorem.{IsAloneIn, Leaves, Licenses, Prints}
 use Rattle.envy_run.specs.Unserved.{IsUnserved}
 use Rattle.envy_run.specs.declared.ended.Ended.{Ended}
-use Rattle.envy_run.specs.declared.ending.Finished.{Finished}
+use Rattle.envy_run.specs.declared.endings.Finished.{Finished}
 use Rattle.envy_run.proofs.Completing.{completes, form-known, headline-refused, leaves, prints, rule-known, words-refused}
 use Rattle.envy_run.proofs.Driving.{tells-refused}
 

@@ -1,10 +1,11 @@
 -- The flash work of lines of an index, from that of the tree's calls.
-use Rattle.std.proofs.Common.{◌≡◌, ℕ, ◌+◌, ◌*◌, ◌≤◌, Bool, List, refl, sym, ap, subst, arith}
+use Rattle.std.proofs.Common.{◌≡◌, ℕ, ◌+◌, ◌*◌, ◌^◌, ◌≤◌, Bool, List, length, refl, sym, ap, subst, arith}
 use Rattle.std.proofs.Math.Nat.{mul-le-mul_left}
 use Rattle.std.specs.Prelude.{sum}
 use Rattle.envy_base.specs.Words.{Spends as SheetSpends}
 use Rattle.envy_base.specs.declared.faults.PlannedFault.{PlannedFault}
 use Rattle.envy_base.specs.declared.shape.Shape.{Shape}
+use Rattle.envy_btree.specs.Answers.{insert_puts, removal_puts}
 use Rattle.envy_layout.specs.Same.{Counted, Grows, Kept}
 use Rattle.envy_map.specs.Fields.{Chart}
 use Rattle.envy_memory.specs.Below.{flush_programs, flush_erases}
@@ -22,6 +23,17 @@ puts-none c = spends-none (0 * flush_programs c.shape.rows) (0 * flush_erases) c
 -- what a call of the tree says of the words it says of the board
 pub puts-sheet : (n : ℕ) (p q : Picture) (b d : Bool) → SheetSpends n (sheet_of p b) (sheet_of q d) → SpendsPuts n p.chart q.chart
 puts-sheet n p q b d s = let programs = s.programs in let erases = s.erases in record { programs = programs; erases = erases }
+
+-- so of a change in no more words than an index has
+pub puts-set : (p q : Picture) (b d : Bool) → length (sheet_of p b).words ≤ 2 ^ 25 → SheetSpends (insert_puts (length (sheet_of p b).words)) (sheet_of p b) (sheet_of q d) → SpendsPuts (insert_puts (2 ^ 25)) p.chart q.chart
+puts-set p q b d few s =
+    let same : insert_puts (length (sheet_of p b).words) ≡ insert_puts (2 ^ 25) = omega (arith, few) in
+    puts-sheet (insert_puts (2 ^ 25)) p q b d (subst (λ (n : ℕ). SheetSpends n (sheet_of p b) (sheet_of q d)) same s)
+
+pub puts-removed : (p q : Picture) (b d : Bool) → length (sheet_of p b).words ≤ 2 ^ 25 → SheetSpends (removal_puts (length (sheet_of p b).words)) (sheet_of p b) (sheet_of q d) → SpendsPuts (removal_puts (2 ^ 25)) p.chart q.chart
+puts-removed p q b d few s =
+    let same : removal_puts (length (sheet_of p b).words) ≡ removal_puts (2 ^ 25) = omega (arith, few) in
+    puts-sheet (removal_puts (2 ^ 25)) p q b d (subst (λ (n : ℕ). SheetSpends n (sheet_of p b) (sheet_of q d)) same s)
 
 -- a plan begins nothing
 pub puts-planned : (fault : PlannedFault) (p q : Picture) → q ≡ record p { chart = planned fault p.chart } → SpendsPuts 0 p.chart q.chart

@@ -52,7 +52,7 @@ use Rattle.envy_run.specs.Licence.{Licence, plans_in}
 use Rattle.envy_run.specs.Outcome.{Outcome, ending_of, outcome_of}
 use Rattle.envy_run.specs.Prepares.{IsPrepared, IsReady, NoneBegun, WasMade}
 use Rattle.envy_run.specs.Task.{DoesTask}
-use Rattle.envy_run.specs.declared.ending.Finished.{Finished}
+use Rattle.envy_run.specs.declared.endings.Finished.{Finished}
 use Rattle.envy_run.proofs.Accounts.{account_of, served_outcome, unread}
 use Rattle.envy_run.proofs.IndexSpent.{puts-none, puts-then, puts-more, spends-lit}
 use Rattle.envy_run.proofs.Obeying.{Licence-as, front-after, front-before, one-more}

@@ -25,10 +25,10 @@ use Rattle.envy_run.specs.Loading.{Cause, HasFailed, HasTaken, IsFlawless, IsIns
 use Rattle.envy_run.specs.Meaning.{Does}
 use Rattle.envy_run.specs.Outcome.{outcome_of}
 use Rattle.envy_run.specs.Writing.{WritesAs}
-use Rattle.envy_run.specs.declared.ending.Ending.{Ending}
-use Rattle.envy_run.specs.declared.ending.Finished.{Finished}
-use Rattle.envy_run.specs.declared.loading.Refusal.{Refusal}
-use Rattle.envy_run.specs.declared.loading.Refusal.TheVariants.{Failed, Memory, Early, Unmarked, Misshapen, Upset}
+use Rattle.envy_run.specs.declared.endings.Ending.{Ending}
+use Rattle.envy_run.specs.declared.endings.Finished.{Finished}
+use Rattle.envy_run.specs.declared.image_input.Refusal.{Refusal}
+use Rattle.envy_run.specs.declared.image_input.Refusal.TheVariants.{Failed, Memory, Early, Unmarked, Misshapen, Upset}
 use Rattle.envy_run.proofs.Accounts.{written-as}
 use Rattle.envy_run.proofs.Checked.{shape-is}
 

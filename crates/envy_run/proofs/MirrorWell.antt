@@ -22,7 +22,7 @@ use Rattle.envy_run.specs.MirrorTask.{AreHandedBack, OfEither, IsOffForGood, IsP
 use Rattle.envy_run.specs.Outcome.{Outcome, EndsBy, IsQuiet, ending_of}
 use Rattle.envy_run.specs.Task.{Task}
 use Rattle.envy_run.specs.Unserved.{IsUnread}
-use Rattle.envy_run.specs.declared.ending.Ending.TheVariants.{Done, PowerLost}
+use Rattle.envy_run.specs.declared.endings.Ending.TheVariants.{Done, PowerLost}
 use Rattle.envy_run.proofs.Accounts.{Did, Died, WasDone, WasServed}
 
 -- what is said of an end at which power didn't return, where it is this end

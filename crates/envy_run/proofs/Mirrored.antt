@@ -25,11 +25,11 @@ use Rattle.envy_serve.specs.declared.serving.End.{End}
 use Rattle.envy_serve.specs.Ends.{Serves, Ends, IsAtStart, most_bytes}
 use Rattle.envy_serve.specs.Streams.{Streams}
 use Rattle.envy_serve.proofs.Advancing.{Serves-as, served-either}
-use Rattle.envy_run.specs.declared.ending.Ending.{Ending}
-use Rattle.envy_run.specs.declared.ending.Ending.TheVariants.{FlashFailed, OutOfMemory, PowerLost}
-use Rattle.envy_run.specs.declared.ending.Finished.{Finished}
-use Rattle.envy_run.specs.declared.prepare.Unready.{Unready}
-use Rattle.envy_run.specs.declared.prepare.Unready.TheVariants.{Memory, Bad, Dead}
+use Rattle.envy_run.specs.declared.endings.Ending.{Ending}
+use Rattle.envy_run.specs.declared.endings.Ending.TheVariants.{FlashFailed, OutOfMemory, PowerLost}
+use Rattle.envy_run.specs.declared.endings.Finished.{Finished}
+use Rattle.envy_run.specs.declared.preparation.Unready.{Unready}
+use Rattle.envy_run.specs.declared.preparation.Unready.TheVariants.{Memory, Bad, Dead}
 use Rattle.envy_run.specs.Loading.{IsFlawless, IsNew, IsUnharmed, untouched}
 use Rattle.envy_run.specs.MirrorTask.{AreHandedBack, IsAsMade, IsEitherDark, IsEitherSpoilt, IsMadeFor, IsPairOutOfMemory, MirrorLicences, IsMirrorUnready, mirror_task}
 use Rattle.envy_run.specs.Outcome.{Outcome, IsQuiet, ending_of, outcome_of}

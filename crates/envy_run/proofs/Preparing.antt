@@ -17,11 +17,11 @@ use Rattle.envy_policy.specs.declared.setup.Setup.{Setup}
 use Rattle.envy_serve.specs.Ends.{most_bytes}
 use Rattle.envy_run.specs.Outcome.{outcome_of}
 use Rattle.envy_run.specs.Prepares.{HasSpentReserves, HasTried, IsPrepared, IsReady, IsUnspent, NoneBegun, Unprepared, ending_of_unready}
-use Rattle.envy_run.specs.declared.ending.Ending.{Ending}
-use Rattle.envy_run.specs.declared.ending.Ending.TheVariants.{OutOfMemory}
-use Rattle.envy_run.specs.declared.ending.Finished.{Finished}
-use Rattle.envy_run.specs.declared.prepare.Unready.{Unready}
-use Rattle.envy_run.specs.declared.prepare.Unready.TheVariants.{Memory, Bad, Dead}
+use Rattle.envy_run.specs.declared.endings.Ending.{Ending}
+use Rattle.envy_run.specs.declared.endings.Ending.TheVariants.{OutOfMemory}
+use Rattle.envy_run.specs.declared.endings.Finished.{Finished}
+use Rattle.envy_run.specs.declared.preparation.Unready.{Unready}
+use Rattle.envy_run.specs.declared.preparation.Unready.TheVariants.{Memory, Bad, Dead}
 
 begun-same : (s t : Chart) → CountsFormat s t → t.begun ≡ s.begun
 begun-same s t f = let c = CountsFormat.counted f in let low = Counted.begun c in let few = Counted.few c in omega arith

@@ -17,7 +17,7 @@ use Rattle.envy_trace.specs.declared.reply.Reply.{Reply}
 use Rattle.envy_trace.specs.declared.reply.Reply.TheVariants.{Word, Done, Started, Range, Held, Closed, Full, Busy, Fault, Lost, Restarted, Armed, Stat as StatLine}
 use Rattle.envy_run.specs.Answers.{Answered, AnswersTo}
 use Rattle.envy_run.specs.Licence.{Licence}
-use Rattle.envy_run.specs.declared.answering.Beside.{Beside}
+use Rattle.envy_run.specs.declared.answers.Beside.{Beside}
 use Rattle.envy_serve.specs.Answering.{said}
 use Rattle.envy_run.specs.Turns.{Replies, Says, Faults, TellsCounts}
 

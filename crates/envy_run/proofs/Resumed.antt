@@ -47,12 +47,12 @@ use Rattle.envy_run.specs.Task.{DoesTask, MaybeServed, Session}
 use Rattle.envy_run.specs.Tracing.{Start, TracedSince, DiedSince}
 use Rattle.envy_run.specs.Turns.{TraceTurn, trace_grammar}
 use Rattle.envy_run.specs.Unserved.{IsDark, IsOutOfMemory}
-use Rattle.envy_run.specs.declared.ending.Ending.{Ending}
-use Rattle.envy_run.specs.declared.ending.Ending.TheVariants.{ImageRefused, OutOfMemory, PowerLost}
-use Rattle.envy_run.specs.declared.ending.Finished.{Finished}
-use Rattle.envy_run.specs.declared.ending.ImageFault.TheVariants.{Unruly, Unsound}
-use Rattle.envy_run.specs.declared.loading.Refusal.{Refusal}
-use Rattle.envy_run.specs.declared.loading.Refusal.TheVariants.{Misshapen}
+use Rattle.envy_run.specs.declared.endings.Ending.{Ending}
+use Rattle.envy_run.specs.declared.endings.Ending.TheVariants.{ImageRefused, OutOfMemory, PowerLost}
+use Rattle.envy_run.specs.declared.endings.Finished.{Finished}
+use Rattle.envy_run.specs.declared.endings.ImageFault.TheVariants.{Unruly, Unsound}
+use Rattle.envy_run.specs.declared.image_input.Refusal.{Refusal}
+use Rattle.envy_run.specs.declared.image_input.Refusal.TheVariants.{Misshapen}
 use Rattle.envy_run.proofs.Accounts.{Did, Died, account_of, ends-as, served_outcome}
 use Rattle.envy_run.proofs.Checked.{shape-is}
 use Rattle.envy_run.proofs.Loaded.{image-refused, installed-itself, no-head, refused-unharmed, too-large, within-head}

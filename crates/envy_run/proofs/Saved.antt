@@ -19,7 +19,7 @@ use Rattle.envy_run.specs.Headline.{run_task, save_task, image_in}
 use Rattle.envy_run.specs.Outcome.{Outcome, EndsBy, ending_after, ending_of, numbers_of}
 use Rattle.envy_run.specs.Task.{DoesTask}
 use Rattle.envy_run.specs.Unserved.{IsUnread, IsUnready}
-use Rattle.envy_run.specs.declared.ending.Ending.TheVariants.{Done}
+use Rattle.envy_run.specs.declared.endings.Ending.TheVariants.{Done}
 use Rattle.envy_run.proofs.Accounts.{Did, Died, WasDone, WasServed, account_of, done_of, never-unready}
 use Rattle.envy_run.specs.Turns.{TraceTurn, trace_grammar}
 use Rattle.envy_run.specs.Writing.{WritesOut}

@@ -41,7 +41,7 @@ use Rattle.envy_run.specs.Hits.{MayTell}
 use Rattle.envy_run.specs.Tells.{Telling}
 use Rattle.envy_run.specs.Licence.{Licence, plans_in, newest}
 use Rattle.envy_run.specs.Obeys.{ObeysLine, LineDone}
-use Rattle.envy_run.specs.declared.ending.Finished.{Finished}
+use Rattle.envy_run.specs.declared.endings.Finished.{Finished}
 use Rattle.envy_run.specs.Prepares.{HasTried, IsBegun, IsPrepared, IsReady, NoneBegun, WasMade}
 use Rattle.envy_run.specs.Resumes.{LicencesBehind}
 use Rattle.envy_run.specs.Outcome.{Outcome, ending_of, outcome_of}

@@ -12,8 +12,8 @@ use Rattle.envy_trace.specs.declared.line.Line.TheVariants.{Empty, Power, Cut, B
 use Rattle.envy_trace.specs.declared.reply.Reply.{Reply}
 use Rattle.envy_trace.specs.declared.reply.Reply.TheVariants.{Lost}
 use Rattle.envy_run.specs.Licence.{Licence}
-use Rattle.envy_run.specs.declared.answering.Beside.{Beside}
-use Rattle.envy_run.specs.declared.answering.Beside.TheVariants.{Nothing, Power as OfPower, Plan as OfPlan}
+use Rattle.envy_run.specs.declared.answers.Beside.{Beside}
+use Rattle.envy_run.specs.declared.answers.Beside.TheVariants.{Nothing, Power as OfPower, Plan as OfPlan}
 use Rattle.envy_serve.specs.Answering.{losable}
 use Rattle.envy_run.specs.Turns.{Replies, plan_of, is_fault, is_lost}
 use Rattle.envy_serve.specs.Turns.{one_if}

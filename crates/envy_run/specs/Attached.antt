@@ -8,8 +8,8 @@ use Rattle.envy_memory.specs.Calls.{fresh}
 use Rattle.envy_memory.specs.Formats.{IsStarted}
 use Rattle.envy_memory.specs.Picture.{Picture}
 use Rattle.envy_policy.specs.declared.setup.Setup.{Setup}
-use Rattle.envy_run.specs.declared.attach.Unattached.{Unattached}
-use Rattle.envy_run.specs.declared.attach.Unattached.TheVariants.{Memory, Dead}
+use Rattle.envy_run.specs.declared.attachment.Unattached.{Unattached}
+use Rattle.envy_run.specs.declared.attachment.Unattached.TheVariants.{Memory, Dead}
 
 -- a restart would find what it would have found on the board of the image
 pub record HoldsStill (found now : Chart) : Type 0 where

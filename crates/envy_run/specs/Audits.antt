@@ -17,7 +17,7 @@ use Rattle.envy_run.specs.Loading.{IsInstalled, IsTooLarge, IsUnharmed, IsWithin
 use Rattle.envy_run.specs.Meaning.{Meaning}
 use Rattle.envy_run.specs.Outcome.{Outcome}
 use Rattle.envy_run.specs.Writing.{WritesTrace}
-use Rattle.envy_run.specs.declared.loading.Refusal.{Refusal}
+use Rattle.envy_run.specs.declared.image_input.Refusal.{Refusal}
 
 abbrev pub letter_of : Rule → List ℕ
 letter_of A = codes "a"

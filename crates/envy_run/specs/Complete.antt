@@ -17,7 +17,7 @@ use Rattle.envy_serve.specs.Streams.{Streams}
 use Rattle.envy_run.specs.IndexTurns.{index_grammar}
 use Rattle.envy_run.specs.MirrorTask.{AreWell, HasDiedOut}
 use Rattle.envy_run.specs.Outcome.{Outcome, EndsBy}
-use Rattle.envy_run.specs.declared.ending.Ending.TheVariants.{Done, NotInstalled, OutOfMemory}
+use Rattle.envy_run.specs.declared.endings.Ending.TheVariants.{Done, NotInstalled, OutOfMemory}
 use Rattle.envy_run.specs.Resumes.{setup_found}
 use Rattle.envy_run.specs.Turns.{trace_grammar}
 

@@ -9,8 +9,8 @@ use Rattle.envy_tpca.specs.Load.{Draws}
 use Rattle.envy_tpca.specs.Since.{IsPast, Keeps}
 use Rattle.envy_run.specs.Drives.{report}
 use Rattle.envy_run.specs.Writing.{WritesAs}
-use Rattle.envy_run.specs.declared.ending.Ending.{Ending}
-use Rattle.envy_run.specs.declared.ending.Ending.TheVariants.{FlashFailed, PowerLost}
+use Rattle.envy_run.specs.declared.endings.Ending.{Ending}
+use Rattle.envy_run.specs.declared.endings.Ending.TheVariants.{FlashFailed, PowerLost}
 
 -- the load was driven to its end, and its report is written, or a front of it
 pub record HasTold (area : Area) (load : Draws) (every : ℕ) (first now : Picture) (ending : Ending) (to sink : Drain) : Type 0 where

@@ -39,7 +39,7 @@ use Rattle.envy_run.specs.Unserved.{IsOutOfMemory, IsUnread, IsUnready}
 use Rattle.envy_run.specs.Writing.{WritesTrace}
 use Rattle.envy_run.specs.Task.{Task, serving}
 use Rattle.envy_run.specs.Turns.{TraceTurn, trace_grammar, is_power, is_plan, plan_of, is_lost, is_fault}
-use Rattle.envy_run.specs.declared.ending.Ending.TheVariants.{OutOfMemory, WordsRefused}
+use Rattle.envy_run.specs.declared.endings.Ending.TheVariants.{OutOfMemory, WordsRefused}
 
 -- the command that the words name, or why they are refused
 abbrev pub command_in : {Z : Type 0} → List (String Z) → Result Command WordsFault

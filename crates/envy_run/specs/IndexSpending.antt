@@ -1,5 +1,5 @@
 -- How much flash work the lines of an index may begin, in puts, and that the board counts no more.
-use Rattle.std.specs.Prelude.{ℕ, ◌+◌, ◌-◌, ◌*◌, ◌≤◌, List, [], ◌∷◌, sum}
+use Rattle.std.specs.Prelude.{ℕ, ◌+◌, ◌-◌, ◌*◌, ◌^◌, ◌≤◌, List, [], ◌∷◌, sum}
 use Rattle.envy_btree.specs.Answers.{insert_puts, removal_puts}
 use Rattle.envy_btree.specs.declared.line.IndexLine.{IndexLine}
 use Rattle.envy_btree.specs.declared.line.IndexLine.TheVariants.{Insert, Remove}
@@ -9,11 +9,11 @@ use Rattle.envy_serve.specs.Turns.{count_lines, count_replies}
 use Rattle.envy_run.specs.IndexTurns.{IndexTurn, is_power, is_lost}
 use Rattle.envy_run.specs.Spending.{Spends}
 
--- Puts that a line is worth at most: those of a change, with the transaction that it opens as one of them. Every other
--- line is worth none.
+-- Puts that a line is worth at most: those of a change in the most words that an index has, with the transaction that it
+-- opens as one of them. Every other line is worth none.
 abbrev pub puts_of : IndexLine → ℕ
-puts_of (Insert key value) = insert_puts
-puts_of (Remove key) = removal_puts
+puts_of (Insert key value) = insert_puts (2 ^ 25)
+puts_of (Remove key) = removal_puts (2 ^ 25)
 puts_of line = 0
 
 -- those of all lines together

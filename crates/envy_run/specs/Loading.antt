@@ -16,11 +16,11 @@ use Rattle.envy_map.specs.Fields.{Chart, chart}
 use Rattle.envy_serve.specs.Ends.{most_bytes}
 use Rattle.envy_serve.specs.Streams.{Streams}
 use Rattle.envy_run.specs.Outcome.{Outcome, EndsBy}
-use Rattle.envy_run.specs.declared.ending.Ending.{Ending}
-use Rattle.envy_run.specs.declared.ending.Ending.TheVariants.{ImageRefused, NotInstalled, OutOfMemory, ReadFault}
-use Rattle.envy_run.specs.declared.ending.ImageFault.TheVariants.{Early as ImageEarly, Misshapen as ImageMisshapen, Unmarked as ImageUnmarked}
-use Rattle.envy_run.specs.declared.loading.Refusal.{Refusal}
-use Rattle.envy_run.specs.declared.loading.Refusal.TheVariants.{Failed, Memory, Early, Unmarked, Misshapen, Upset}
+use Rattle.envy_run.specs.declared.endings.Ending.{Ending}
+use Rattle.envy_run.specs.declared.endings.Ending.TheVariants.{ImageRefused, NotInstalled, OutOfMemory, ReadFault}
+use Rattle.envy_run.specs.declared.endings.ImageFault.TheVariants.{Early as ImageEarly, Misshapen as ImageMisshapen, Unmarked as ImageUnmarked}
+use Rattle.envy_run.specs.declared.image_input.Refusal.{Refusal}
+use Rattle.envy_run.specs.declared.image_input.Refusal.TheVariants.{Failed, Memory, Early, Unmarked, Misshapen, Upset}
 
 -- these bytes were taken from the source, which is asked for no more before they are used
 pub record HasTaken (bytes : List ℕ) (from : Feed) (now : Taking) (feed : Feed) : Type 0 where

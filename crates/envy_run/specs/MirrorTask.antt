@@ -7,7 +7,7 @@ use Rattle.envy_pair.specs.MirrorRun.{MirrorTurn, mirror_grammar}
 use Rattle.envy_policy.specs.declared.setup.Setup.{Setup}
 use Rattle.envy_trace.specs.declared.mirror_line.MirrorLine.{MirrorLine}
 use Rattle.envy_trace.specs.declared.mirror_reply.MirrorReply.{MirrorReply}
-use Rattle.envy_run.specs.declared.ending.Ending.TheVariants.{FlashFailed, OutOfMemory, PowerLost}
+use Rattle.envy_run.specs.declared.endings.Ending.TheVariants.{FlashFailed, OutOfMemory, PowerLost}
 use Rattle.envy_run.specs.Loading.{IsNew, IsUnharmed}
 use Rattle.envy_run.specs.Outcome.{Outcome, EndsBy}
 use Rattle.envy_run.specs.Task.{Task}

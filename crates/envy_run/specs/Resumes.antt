@@ -31,9 +31,9 @@ use Rattle.envy_run.specs.Task.{MaybeHeld, MaybeServed, Session, Task, turns_of}
 use Rattle.envy_run.specs.Licence.{plans_in, newest}
 use Rattle.envy_run.specs.Turns.{TraceTurn, trace_grammar, is_power, is_plan, plan_of, is_lost, is_fault}
 use Rattle.envy_run.specs.Unserved.{IsOutOfMemory, IsDark}
-use Rattle.envy_run.specs.declared.ending.Ending.TheVariants.{ImageRefused, OutOfMemory, PowerLost}
-use Rattle.envy_run.specs.declared.ending.ImageFault.TheVariants.{Unruly, Unsound}
-use Rattle.envy_run.specs.declared.loading.Refusal.{Refusal}
+use Rattle.envy_run.specs.declared.endings.Ending.TheVariants.{ImageRefused, OutOfMemory, PowerLost}
+use Rattle.envy_run.specs.declared.endings.ImageFault.TheVariants.{Unruly, Unsound}
+use Rattle.envy_run.specs.declared.image_input.Refusal.{Refusal}
 
 -- the setup that the words make of an image's shape; a mark that isn't given is its number of frames
 abbrev pub setup_found : Policy → ℕ → Option ℕ → Shape → Setup

@@ -3,7 +3,7 @@ use Rattle.std.specs.Prelude.{◌≡◌, ◌⊎◌, ◌<◌, false, IsTrue, Some
 use Rattle.envy_map.specs.Fields.{Chart}
 use Rattle.envy_serve.specs.Streams.{Streams}
 use Rattle.envy_run.specs.Outcome.{Outcome, EndsBy, IsQuiet}
-use Rattle.envy_run.specs.declared.ending.Ending.TheVariants.{FlashFailed, OutOfMemory, PowerLost}
+use Rattle.envy_run.specs.declared.endings.Ending.TheVariants.{FlashFailed, OutOfMemory, PowerLost}
 
 -- power is on, and no flash operation failed where power never did
 pub record IsStanding (now : Chart) : Type 0 where

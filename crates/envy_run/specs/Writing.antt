@@ -4,8 +4,8 @@ use Rattle.envy_io.specs.declared.source.Failed.{Failed}
 use Rattle.envy_io.specs.Streams.{Drain}
 use Rattle.envy_serve.specs.Streams.{Written, FrontWritten}
 use Rattle.envy_run.specs.Outcome.{Outcome, EndsBy}
-use Rattle.envy_run.specs.declared.ending.Ending.{Ending}
-use Rattle.envy_run.specs.declared.ending.Ending.TheVariants.{Done, WriteFault}
+use Rattle.envy_run.specs.declared.endings.Ending.{Ending}
+use Rattle.envy_run.specs.declared.endings.Ending.TheVariants.{Done, WriteFault}
 
 -- the text is written whole and the sink is flushed, or a front of it is written and the sink fails
 abbrev pub WritesOut : List ℕ → Result Unit Failed → Drain → Drain → Type 0

@@ -8,8 +8,8 @@ ghost use Rattle.envy_run.specs.Writing.{WritesOut};
 ghost use Rattle.envy_serve.specs.Ends.{most_bytes};
 ghost use Rattle.envy_serve.specs.Streams.{streams_of};
 
-use crate::ending::{Finished, stopped_at, written};
-use crate::loading::{Refusal, is_too_large, refused, take_head, take_image};
+use crate::endings::{Finished, stopped_at, written};
+use crate::image_input::{Refusal, is_too_large, refused, take_head, take_image};
 use arrayvec::ArrayVec;
 use envy_base::Maker;
 use envy_image::{Rule, Verdict};

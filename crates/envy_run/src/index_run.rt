@@ -8,9 +8,9 @@ ghost use Rattle.envy_run.specs.Task.{DoesTask};
 ghost use Rattle.envy_serve.specs.Ends.{most_bytes};
 ghost use Rattle.envy_serve.specs.Streams.{streams_of};
 
-use crate::ending::{Finished, finished_with};
-use crate::indexing::Indexing;
-use crate::prepare::make_memory;
+use crate::endings::{Finished, finished_with};
+use crate::index_machine::Indexing;
+use crate::preparation::make_memory;
 use crate::restart::ReplyBuffer;
 use envy_args::USUAL_ROWS;
 use envy_base::Maker;

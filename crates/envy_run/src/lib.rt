@@ -2,32 +2,32 @@
 //! theorem that its answers are those of a plain array of words.
 #![tactic(auto)]
 
-mod answering;
-mod attach;
+mod answers;
+mod attachment;
 mod audit_run;
+mod commands;
 mod ended;
-mod ending;
+mod endings;
 mod gen_run;
-mod index_answering;
-mod index_obey;
+mod image_input;
+mod index_answers;
+mod index_lines;
+mod index_machine;
 mod index_run;
-mod indexing;
 mod laws;
-mod loading;
 mod map_run;
 mod mirror_run;
-mod obey;
 mod plain_run;
-mod prepare;
+mod power_lines;
+mod preparation;
 mod report;
 mod restart;
 mod resume_run;
-mod running;
 mod save_run;
 mod tpca_run;
-mod tracing;
+mod trace_machine;
 
-pub use answering::{Beside, answer, arm};
+pub use answers::{Beside, answer, arm};
+pub use commands::run;
 pub use ended::{Ended, end_text};
 pub use laws::memory_and_plain_machine_write_alike;
-pub use running::run;

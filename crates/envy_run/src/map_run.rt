@@ -11,8 +11,8 @@ ghost use Rattle.envy_serve.specs.Ends.{most_bytes};
 ghost use Rattle.envy_serve.specs.Streams.{streams_of};
 
 use crate::audit_run::{AUDIT_LIVES, write_verdict};
-use crate::ending::{Finished, stopped_at, written};
-use crate::loading::{Refusal, is_too_large, refused, take_head, take_image};
+use crate::endings::{Finished, stopped_at, written};
+use crate::image_input::{Refusal, is_too_large, refused, take_head, take_image};
 use envy_base::{Board, Maker};
 use envy_image::Verdict;
 use envy_io::{Failed, Lines, Sink, Source};

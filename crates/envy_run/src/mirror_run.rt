@@ -9,8 +9,8 @@ ghost use Rattle.envy_run.specs.Task.{DoesTask};
 ghost use Rattle.envy_serve.specs.Ends.{most_bytes};
 ghost use Rattle.envy_serve.specs.Streams.{streams_of};
 
-use crate::ending::{Ending, Finished, after, unserved};
-use crate::prepare::{Unready, prepare, why_unready};
+use crate::endings::{Ending, Finished, after, unserved};
+use crate::preparation::{Unready, prepare, why_unready};
 use envy_base::Maker;
 use envy_io::{Lines, Sink, Source};
 use envy_mirror::Mirror;

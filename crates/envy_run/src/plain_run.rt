@@ -13,9 +13,9 @@ ghost use Rattle.envy_run.specs.Turns.{Replies};
 ghost use Rattle.envy_serve.specs.Ends.{most_bytes};
 ghost use Rattle.envy_serve.specs.Streams.{streams_of};
 
-use crate::ending::{Ending, Finished, finished_with, unserved};
+use crate::endings::{Ending, Finished, finished_with, unserved};
 use crate::restart::{ReplyBuffer, write_reply};
-use crate::tracing::read_any;
+use crate::trace_machine::read_any;
 use envy_base::Counts;
 use envy_io::{Failed, Lines, Sink, Source};
 use envy_plain::{Plain, Refusal};

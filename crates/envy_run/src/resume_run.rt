@@ -17,11 +17,11 @@ ghost use Rattle.envy_run.specs.Task.{DoesTask};
 ghost use Rattle.envy_serve.specs.Ends.{most_bytes};
 ghost use Rattle.envy_serve.specs.Streams.{streams_of};
 
-use crate::attach::{Unattached, attach};
-use crate::ending::{Ending, Finished, ImageFault, finished_with, stopped_at};
-use crate::loading::{Refusal, is_too_large, refused, take_head, take_image};
+use crate::attachment::{Unattached, attach};
+use crate::endings::{Ending, Finished, ImageFault, finished_with, stopped_at};
+use crate::image_input::{Refusal, is_too_large, refused, take_head, take_image};
 use crate::restart::ReplyBuffer;
-use crate::tracing::Tracing;
+use crate::trace_machine::Tracing;
 use envy_base::{Bench, Maker, Shape};
 use envy_image::Verdict;
 use envy_io::{Lines, Sink, Source};

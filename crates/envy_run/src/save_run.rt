@@ -10,8 +10,8 @@ ghost use Rattle.envy_run.specs.Writing.{WritesOut};
 ghost use Rattle.envy_serve.specs.Ends.{most_bytes};
 ghost use Rattle.envy_serve.specs.Streams.{streams_of};
 
-use crate::ending::{Ending, Finished, written};
-use crate::running::run_trace;
+use crate::commands::run_trace;
+use crate::endings::{Ending, Finished, written};
 use envy_base::{Board, Maker};
 use envy_image::{OutFault, write_image};
 use envy_io::{Failed, Sink, Source};

@@ -13,8 +13,8 @@ ghost use Rattle.envy_run.specs.Outcome.{outcome_of};
 ghost use Rattle.envy_run.specs.Unserved.{IsUnserved};
 ghost use Rattle.envy_serve.specs.Ends.{most_bytes};
 
-use crate::ending::{Ending, Finished, unserved, written};
-use crate::prepare::make_memory;
+use crate::endings::{Ending, Finished, unserved, written};
+use crate::preparation::make_memory;
 use crate::report::write_report;
 use envy_base::{Area, Bench, MOST_ROWS, Maker};
 use envy_io::Sink;

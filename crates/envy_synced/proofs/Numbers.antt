@@ -28,3 +28,9 @@ number_one (x ∷ xs) (y ∷ ys) e =
     let heads : x ≡ y = first x y (number xs) (number ys) e in
     let tails : xs ≡ ys = number_one xs ys (second y (number xs) (number ys) (sym (ap (λ (n : ℕ). both n (number xs)) heads) ∙ e)) in
     ap (λ (n : ℕ). n ∷ xs) heads ∙ ap (λ (l : List ℕ). y ∷ l) tails
+
+-- nor two files with what is told before them
+pub rest_one : (a b : ℕ) (xs ys : List ℕ) → number (a ∷ xs) ≡ number (b ∷ ys) → xs ≡ ys
+rest_one a b xs ys e =
+    let heads : a ≡ b = first a b (number xs) (number ys) e in
+    number_one xs ys (second b (number xs) (number ys) (sym (ap (λ (n : ℕ). both n (number xs)) heads) ∙ e))

@@ -1,5 +1,5 @@
 -- What the numbers of a kept board tell.
-use Rattle.std.proofs.Common.{◌≡◌, ◌⊎◌, ◌∙◌, ◌≤◌, inl, inr, ℕ, List, false, length, refl, sym, ap, subst, arith}
+use Rattle.std.proofs.Common.{◌≡◌, ◌⊎◌, ◌∙◌, ◌<◌, ◌≤◌, inl, inr, ℕ, List, ◌∷◌, false, length, refl, sym, ap, subst, arith}
 use Rattle.std.proofs.Math.Logic.{∥∥₁_map}
 use Rattle.std.proofs.lemmas.List.{length-take}
 use Rattle.envy_base.specs.declared.shape.Shape.{Shape}
@@ -14,13 +14,13 @@ use Rattle.envy_journal.specs.Log.{Begins, kept_bytes}
 use Rattle.envy_journal.specs.Reading.{operations}
 use Rattle.envy_journal.specs.Snapshot.{most_of}
 use Rattle.envy_synced.specs.Number.{number}
-use Rattle.envy_synced.specs.Disk.{disk_state, Ends, IsKept, Reopens, IsCompact, IsSynced, IsLast, IsBefore}
-use Rattle.envy_synced.proofs.Numbers.{number_one}
+use Rattle.envy_synced.specs.Disk.{disk_state, Ends, IsKept, Reopens, IsCompact, IsHindered, IsSynced, IsLast, IsBefore}
+use Rattle.envy_synced.proofs.Numbers.{rest_one}
 
 -- the operations that a sync brought to the disk open as the board was
-reopens_synced : (was : Chart) (sh : Shape) (bytes file : List ℕ) → IsSynced was → was.shape ≡ sh → number bytes ≡ was.given → StandsFor sh (operations bytes) file → Reopens was file
-reopens_synced was sh bytes file is shape given stands =
-    let same : operations file ≡ operations is.bytes = stands.reads ∙ ap operations (number_one bytes is.bytes (given ∙ is.coded)) in
+reopens_synced : (was : Chart) (sh : Shape) (n : ℕ) (bytes file : List ℕ) → IsSynced was → was.shape ≡ sh → number (n ∷ bytes) ≡ was.given → StandsFor sh (operations bytes) file → Reopens was file
+reopens_synced was sh n bytes file is shape given stands =
+    let same : operations file ≡ operations is.bytes = stands.reads ∙ ap operations (rest_one n is.hindrances bytes is.bytes (given ∙ is.coded)) in
     record {
       head = subst (λ (x : Shape). Begins (head_bytes x) file) (sym shape) stands.head;
       fields = ap (λ (p : List Operation). map_fields was.shape (holds was.shape p).sram) same ∙ is.fields;
@@ -37,16 +37,27 @@ reopens_now s t file is shape content = record {
 }
 
 -- a board just behind a compaction
-pub compact_now : {D : Type 0} (seen : D → List ℕ) (moment : D → ℕ) (log before : Log D) (s : State) → length (seen log.device) ≤ most_of s.shape → IsCompact (chart (disk_state seen moment log before s))
-compact_now seen moment log before s short = record {
+pub compact_now : {D : Type 0} (seen : D → List ℕ) (moment hindered : D → ℕ) (log before : Log D) (s : State) → length (seen log.device) ≤ most_of s.shape → IsCompact (chart (disk_state seen moment hindered log before s))
+compact_now seen moment hindered log before s short = record {
+  hindrances = hindered log.device;
   bytes = kept_bytes seen log;
   coded = refl;
   short = (let few = length-take log.gate (seen log.device) in omega (arith, few, short));
 }
 
+-- a board just behind a compaction that was hindered
+pub hindered_now : {D : Type 0} (seen : D → List ℕ) (moment hindered : D → ℕ) (log before : Log D) (s : State) → 0 < hindered log.device → IsHindered (chart (disk_state seen moment hindered log before s))
+hindered_now seen moment hindered log before s some = record {
+  hindrances = hindered log.device;
+  bytes = kept_bytes seen log;
+  coded = refl;
+  some = some;
+}
+
 -- a board just behind a sync
-pub synced_now : {D : Type 0} (seen : D → List ℕ) (moment : D → ℕ) (log before : Log D) (s : State) → content_of s ≡ holds s.shape (kept seen log) → IsSynced (chart (disk_state seen moment log before s))
-synced_now seen moment log before s content = record {
+pub synced_now : {D : Type 0} (seen : D → List ℕ) (moment hindered : D → ℕ) (log before : Log D) (s : State) → content_of s ≡ holds s.shape (kept seen log) → IsSynced (chart (disk_state seen moment hindered log before s))
+synced_now seen moment hindered log before s content = record {
+  hindrances = hindered log.device;
   bytes = kept_bytes seen log;
   coded = refl;
   fields = ap (λ (x : Content). map_fields s.shape x.sram) (sym content);
@@ -54,16 +65,16 @@ synced_now seen moment log before s content = record {
 }
 
 -- what it brought to the disk are the operations that are kept
-pub reads_now : {D : Type 0} (seen : D → List ℕ) (moment : D → ℕ) (log before : Log D) (s : State) → content_of s ≡ holds s.shape (kept seen log) → (synced : IsSynced (chart (disk_state seen moment log before s))) × (operations synced.bytes ≡ kept seen log)
+pub reads_now : {D : Type 0} (seen : D → List ℕ) (moment hindered : D → ℕ) (log before : Log D) (s : State) → content_of s ≡ holds s.shape (kept seen log) → (synced : IsSynced (chart (disk_state seen moment hindered log before s))) × (operations synced.bytes ≡ kept seen log)
 unfolding synced_now
-reads_now seen moment log before s content = (synced_now seen moment log before s content, refl)
+reads_now seen moment hindered log before s content = (synced_now seen moment hindered log before s content, refl)
 
-module _ {D : Type 0} (seen : D → List ℕ) (moment : D → ℕ) (left_since : D → ℕ → List ℕ → Type 0) (now was before : Log D) (s : State) (is : IsKept seen moment left_since now was before s) where
+module _ {D : Type 0} (seen : D → List ℕ) (moment hindered : D → ℕ) (left_since : D → ℕ → List ℕ → Type 0) (now was before : Log D) (s : State) (is : IsKept seen moment left_since now was before s) where
   abbrev told : State
-  told = disk_state seen moment was before s
+  told = disk_state seen moment hindered was before s
 
   told_ends : (c : Chart) (file : List ℕ) → IsSynced c → IsLast c (chart told) → Ends s (kept seen was) file → Reopens c file ⊎ ((told.on ≡ false) × Reopens (chart told) file)
-  told_ends c file good last (inl stands) = inl (reopens_synced c s.shape (kept_bytes seen was) file good last.shape last.bytes stands)
+  told_ends c file good last (inl stands) = inl (reopens_synced c s.shape (hindered was.device) (kept_bytes seen was) file good last.shape last.bytes stands)
   told_ends c file good last (inr (off, holding)) = inr (off, reopens_now s told file holding refl refl)
 
   -- a crash since the last sync leaves a file that reopens to what was synced then
@@ -73,7 +84,7 @@ module _ {D : Type 0} (seen : D → List ℕ) (moment : D → ℕ) (left_since :
   told_stands : (c : Chart) (file : List ℕ) (good : IsSynced c) → IsLast c (chart told) → Ends s (kept seen was) file → StandsFor c.shape (operations good.bytes) file ⊎ ((told.on ≡ false) × Reopens (chart told) file)
   told_stands c file good last (inl stands) =
       inl (subst (λ (sh : Shape). StandsFor sh (operations good.bytes) file) (sym last.shape)
-      (subst (λ (p : List Operation). StandsFor s.shape p file) (ap operations (number_one (kept_bytes seen was) good.bytes (last.bytes ∙ good.coded))) stands))
+      (subst (λ (p : List Operation). StandsFor s.shape p file) (ap operations (rest_one (hindered was.device) good.hindrances (kept_bytes seen was) good.bytes (last.bytes ∙ good.coded))) stands))
   told_stands c file good last (inr (off, holding)) = inr (off, reopens_now s told file holding refl refl)
 
   -- it has the operations that were on the disk then
@@ -81,7 +92,7 @@ module _ {D : Type 0} (seen : D → List ℕ) (moment : D → ℕ) (left_since :
   told_reads c file good last left = ∥∥₁_map (is.each file (subst (λ (t : ℕ). left_since now.device t file) (sym last.moment) left)) (λ e. told_stands c file good last e)
 
   told_either : (b c : Chart) (file : List ℕ) → IsSynced b → IsSynced c → IsBefore b (chart told) → IsLast c (chart told) → StandsFor s.shape (kept seen before) file ⊎ Ends s (kept seen was) file → Reopens b file ⊎ (Reopens c file ⊎ ((told.on ≡ false) × Reopens (chart told) file))
-  told_either b c file fine good first last (inl stands) = inl (reopens_synced b s.shape (kept_bytes seen before) file fine first.shape first.bytes stands)
+  told_either b c file fine good first last (inl stands) = inl (reopens_synced b s.shape (hindered before.device) (kept_bytes seen before) file fine first.shape first.bytes stands)
   told_either b c file fine good first last (inr ends) = inr (told_ends c file good last ends)
 
   -- a crash since the sync before leaves one of the last two

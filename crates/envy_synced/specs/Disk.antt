@@ -1,5 +1,5 @@
 -- What a kept board tells of the disk.
-use Rattle.std.specs.Prelude.{◌≡◌, ◌⊎◌, ℕ, ◌≤◌, false, IsTrue, List, length}
+use Rattle.std.specs.Prelude.{◌≡◌, ◌⊎◌, ℕ, ◌<◌, ◌≤◌, false, IsTrue, List, ◌∷◌, length}
 use Rattle.envy_base.specs.State.{State, IsBoard}
 use Rattle.envy_map.specs.Fields.{Chart, map_fields}
 use Rattle.envy_journal.specs.declared.log.Log.{Log}
@@ -13,10 +13,14 @@ use Rattle.envy_journal.specs.Snapshot.{most_of}
 use Rattle.envy_disk.specs.Disk.{with_disk}
 use Rattle.envy_synced.specs.Number.{number}
 
--- The numbers tell when the last sync succeeded and the bytes that it brought to the disk (`plans`, `given`), and the same
--- of the sync before (`pulled`, `lives`).
-abbrev pub disk_state : {D : Type 0} → (D → List ℕ) → (D → ℕ) → Log D → Log D → State → State
-disk_state seen moment was before s = with_disk s (moment was.device) (number (kept_bytes seen was)) (moment before.device) (number (kept_bytes seen before))
+-- what a sync brought to the disk, and before it how many calls on a second file had failed, as a number
+abbrev pub told_of : {D : Type 0} → (D → List ℕ) → (D → ℕ) → Log D → ℕ
+told_of seen hindered log = number (hindered log.device ∷ kept_bytes seen log)
+
+-- The numbers tell when the last sync succeeded and what it brought to the disk (`plans`, `given`), and the same of the sync
+-- before (`pulled`, `lives`).
+abbrev pub disk_state : {D : Type 0} → (D → List ℕ) → (D → ℕ) → (D → ℕ) → Log D → Log D → State → State
+disk_state seen moment hindered was before s = with_disk s (moment was.device) (told_of seen hindered was) (moment before.device) (told_of seen hindered before)
 
 -- what a crash since the last sync leaves: what it brought to the disk, or, where power is off, what the board holds now
 abbrev pub Ends : State → List Operation → List ℕ → Type 0
@@ -39,16 +43,25 @@ pub record Reopens (c : Chart) (file : List ℕ) : Type 0 where
 
 -- a board just behind a sync: what its numbers tell is on the disk is what it holds
 pub record IsSynced (c : Chart) : Type 0 where
+  pub hindrances : ℕ
   pub bytes : List ℕ
-  pub coded : c.given ≡ number bytes
+  pub coded : c.given ≡ number (hindrances ∷ bytes)
   pub fields : map_fields c.shape (holds c.shape (operations bytes)).sram ≡ c.fields
   pub flash : (holds c.shape (operations bytes)).flash ≡ c.flash
 
 -- the journal that its numbers tell is on the disk is no longer than a snapshot
 pub record IsCompact (c : Chart) : Type 0 where
+  pub hindrances : ℕ
   pub bytes : List ℕ
-  pub coded : c.given ≡ number bytes
+  pub coded : c.given ≡ number (hindrances ∷ bytes)
   pub short : length bytes ≤ most_of c.shape
+
+-- by the numbers, a call on a second file has failed since the device was made
+pub record IsHindered (c : Chart) : Type 0 where
+  pub hindrances : ℕ
+  pub bytes : List ℕ
+  pub coded : c.given ≡ number (hindrances ∷ bytes)
+  pub some : 0 < hindrances
 
 -- by the numbers, it was so behind the last sync that succeeded
 pub record IsLast (was now : Chart) : Type 0 where

@@ -1,4 +1,4 @@
-ghost use Rattle.std.specs.Prelude.{◌≡◌, ◌⊎◌, ◌<◌, ◌≤◌, ℕ, List, false, IsTrue, length, nat_lt};
+ghost use Rattle.std.specs.Prelude.{◌≡◌, ◌⊎◌, ◌<◌, ◌≤◌, ℕ, List, false, IsTrue, length};
 ghost use Rattle.std.proofs.Props.{props};
 ghost use Rattle.envy_base.specs.State.{Puts, Programs, Erases};
 ghost use Rattle.envy_map.specs.Fields.{Chart, chart};
@@ -9,7 +9,7 @@ ghost use Rattle.envy_journal.specs.Journal.{journal_state, kept, done};
 ghost use Rattle.envy_journal.specs.Log.{HasEnded};
 ghost use Rattle.envy_journal.specs.Reading.{operations};
 ghost use Rattle.envy_journal.specs.Snapshot.{limit_of};
-ghost use Rattle.envy_synced.specs.Disk.{IsKept, IsLast, IsBefore, IsCompact, IsSynced, Reopens, disk_state};
+ghost use Rattle.envy_synced.specs.Disk.{IsKept, IsLast, IsBefore, IsCompact, IsHindered, IsSynced, Reopens, disk_state};
 
 use crate::light::{erase, program, put};
 use envy_base::{Board, Off, Page, Shape, Trouble};
@@ -101,7 +101,7 @@ impl<B: Steady, D: Device> Board for Kept<B, D> {
     ghost use Rattle.envy_synced.specs.Disk.{lawful_disk};
     ghost use Rattle.envy_journal.specs.Journal.{lawful_lem};
 
-    ghost state = { λ k. disk_state D.seen D.moment k.synced.value.log k.before.value.log (journal_state k.journal.dead (B.state k.journal.board)) };
+    ghost state = { λ k. disk_state D.seen D.moment D.hindered k.synced.value.log k.before.value.log (journal_state k.journal.dead (B.state k.journal.board)) };
 
     ghost lawful = { λ k. lawful_disk _ _ _ _ _ (lawful_lem k.journal.dead (B.state k.journal.board) (B.lawful k.journal.board)) };
 
@@ -139,7 +139,7 @@ impl<B: Steady, D: Place> OnDisk for Kept<B, D> {
 
     ghost is_compact = { IsCompact };
 
-    ghost is_hindered = { λ k. nat_lt 0 k.journal.next };
+    ghost is_hindered = { IsHindered };
 
     fn sync(&mut self) -> Result<(), Off> {
         match self.journal.sync() {
@@ -167,7 +167,7 @@ impl<B: Steady, D: Place> OnDisk for Kept<B, D> {
 // What became of the last compaction that was tried.
 fn made_of<B: Steady, D: Device>(journal: &Journaled<B, D>) -> Compaction
     ensures done { result ≡ Done → journal.now.next ≡ 0 }
-    ensures appended { result ≡ Appended → IsTrue (nat_lt 0 journal.now.next) }
+    ensures appended { result ≡ Appended → 0 < journal.now.next }
 {
     if journal.compaction_failed() {
         Compaction::Appended

@@ -76,7 +76,7 @@ node-ails ws free root piece level child d odd is past =
     let m = descends-more ws root piece level child d odd is in
     record { way = m.way; node = child; leads = m.leads; breaks = past }
 
-pub deep-ails : (ws free : List ℕ) (root piece : ℕ) → Descends ws root piece 6 → Ails ws free root Deep
+pub deep-ails : (ws free : List ℕ) (root piece : ℕ) → Descends ws root piece 7 → Ails ws free root Deep
 deep-ails ws free root piece d = record { way = d.way; node = piece; leads = d.leads; long = d.long }
 
 -- the root is in no piece that was handed out

@@ -80,7 +80,7 @@ obeying ws free root es fault i heap named s =
     refuted Count way q low high w out few rules floor below b = b
 
 -- no way leads down further than a tree is deep
-no-deeper : (ws free : List ℕ) (root : ℕ) (es : List (ℕ × ℕ)) → length ws ≤ 33554432 → IsIndex ws es → IsHeap ws free → get_or ws 0 0 ≡ root + 1 → IsDeep ws root → ⊥
+no-deeper : (ws free : List ℕ) (root : ℕ) (es : List (ℕ × ℕ)) → length ws ≤ 536870912 → IsIndex ws es → IsHeap ws free → get_or ws 0 0 ≡ root + 1 → IsDeep ws root → ⊥
 no-deeper ws free root es small i heap named s =
     let r = rooted-of ws free root es i.planted heap named in
     let leads : Leads ws (piece_of r.depth r.tree) s.way s.node = subst (λ x. Leads ws x s.way s.node) (sym r.is) s.leads in
@@ -99,7 +99,7 @@ no-uneven ws free root es i heap named s =
     let kb : kind_at ws s.other ≡ kind_of b.depth = ap (kind_at ws) (sym b.is) ∙ kind-stood ws free _ _ _ b.depth b.tree b.stands in
     s.kinds (ka ∙ ap kind_of same ∙ sym kb)
 
-no-ill : (ws : List ℕ) (es : List (ℕ × ℕ)) (fault : MapFault) → length ws ≤ 33554432 → fault ≢ Off → (h : HasIll ws fault) → IsIndex ws es → ⊥
+no-ill : (ws : List ℕ) (es : List (ℕ × ℕ)) (fault : MapFault) → length ws ≤ 536870912 → fault ≢ Off → (h : HasIll ws fault) → IsIndex ws es → ⊥
 no-ill ws es fault small other h i = go fault h.ails other
   where
     go : (fault : MapFault) → Ails ws h.free h.root fault → fault ≢ Off → ⊥
@@ -154,7 +154,7 @@ planted-long ws es fs p i = go p.tree
         let rules = index-obeys ws p.free (piece_of d t) fs i p.heap tree.root in
         rules.count w.0 w.1 w.2 w.3 ∙ ap (λ x. pairs_under x ws (piece_of d t)) w.4 ∙ pairs-same ws 0 (2 ^ 64) d t tree.stands.holds tree.stands.ordered ∙ sym (ap length e)
 
-pub no-map : (ws : List ℕ) (es : List (ℕ × ℕ)) (fault : MapFault) → length ws ≤ 33554432 → Causes ws fault → fault ≢ Off → IsIndex ws es → ⊥
+pub no-map : (ws : List ℕ) (es : List (ℕ × ℕ)) (fault : MapFault) → length ws ≤ 536870912 → Causes ws fault → fault ≢ Off → IsIndex ws es → ⊥
 no-map ws es Off small c ne i = ne refl
 no-map ws es Short small c ne i = absurd (omega (arith, c, i.planted.heap.size))
 no-map ws es Used small c ne i = absurd (omega (arith, c, i.planted.heap.used))

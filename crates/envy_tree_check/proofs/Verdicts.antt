@@ -33,7 +33,7 @@ causes-of ws free levels root (Ok x) heap named l s = tt
 causes-of ws free levels root (Err e) heap named l s = ails-cause ws free root e heap named (sick-ails ws free levels root e l s)
 
 -- a cause rules out every map
-pub cause-none : (ws : List ℕ) (fault : MapFault) → length ws ≤ 2 ^ 25 → Causes ws fault → fault ≢ Off → (es : List (ℕ × ℕ)) → IsIndex ws es → ⊥
+pub cause-none : (ws : List ℕ) (fault : MapFault) → length ws ≤ 2 ^ 29 → Causes ws fault → fault ≢ Off → (es : List (ℕ × ℕ)) → IsIndex ws es → ⊥
 cause-none ws fault small c ne es i = no-map ws es fault small c ne i
 
 -- The same of words that are these

@@ -58,7 +58,7 @@ pub record IsDeep (ws : List ℕ) (root : ℕ) : Type 0 where
   pub way : List ℕ
   pub node : ℕ
   pub leads : Leads ws root way node
-  pub long : length way ≡ 6
+  pub long : length way ≡ 7
 
 -- what the tree ails whose root is in this piece
 abbrev pub Ails : List ℕ → List ℕ → ℕ → MapFault → Type 0

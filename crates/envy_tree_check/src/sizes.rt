@@ -18,8 +18,8 @@ pub(crate) const HEAD_LIMIT: u64 = 64;
 /// The fewest keys of a node that is not the root.
 pub(crate) const FEWEST_KEYS: u32 = 15;
 
-/// The most levels of nodes in `2^25` words.
-pub(crate) const LEVELS: u32 = 6;
+/// The most levels of nodes in `2^29` words.
+pub(crate) const LEVELS: u32 = 7;
 
 /// The most pairs for each piece, and for how many pieces there are none.
 pub(crate) const PIECE_PAIRS: u64 = 14;

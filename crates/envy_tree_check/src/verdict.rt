@@ -20,7 +20,7 @@ use envy_base::Words;
 ///
 /// The first rule that they break; or `Off`.
 pub fn check<W: Words>(words: &mut W) -> Result<(), MapFault>
-    requires size { length (W.sheet words.old).words ≤ 2 ^ 25 }
+    requires size { length (W.sheet words.old).words ≤ 2 ^ 29 }
     ensures looks { Looks (W.sheet words.old) (W.sheet words.new) }
     ensures power { Powers (W.sheet words.old).words result (W.sheet words.new) }
     ensures stands { OnOk result ((es : List (ℕ × ℕ)) × IsIndex (W.sheet words.old).words es) }

@@ -47,7 +47,7 @@ pub map-seen : (first count : ℕ) (s : Sheet) → IsMap first → count ≡ 640
 map-seen first count s (inl e) size b = rw e (rw size b.front)
 map-seen first count s (inr e) size b = rw e (rw size b.rear)
 
-pub size-seen : (first count : ℕ) (s : Sheet) → first + count ≤ length s.words → count ≡ 640 → length (within first count s).words ≤ 2 ^ 25
+pub size-seen : (first count : ℕ) (s : Sheet) → first + count ≤ length s.words → count ≡ 640 → length (within first count s).words ≤ 2 ^ 29
 size-seen first count s fits size = omega (arith, inside-long first count s.words fits, size)
 
 -- what is outside a range is as it was

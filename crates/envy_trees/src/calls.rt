@@ -12,7 +12,7 @@ use std::process::Abort;
 
 pub(crate) fn empty_index(alloc: Global, size: u32) -> Result<VecWords, NoMemory>
     requires least { 640 ≤ size }
-    requires most { size ≤ 2 ^ 25 }
+    requires most { size ≤ 2 ^ 29 }
     ensures { IfOk result (λ words. IsReady (vec_sheet words)) }
 {
     VecWords::new(alloc, size, 32)

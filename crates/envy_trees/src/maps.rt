@@ -260,7 +260,7 @@ fn free_pieces(rt: &impl Abort, words: &mut VecWords) -> u64
 // Fills the map with this many pairs, all that it may have, and takes them out in another order.
 fn fills_and_empties(rt: &impl Abort, alloc: Global, size: u32, pairs: u64, order: Order)
     requires least { 640 ≤ size }
-    requires most { size ≤ 2 ^ 25 }
+    requires most { size ≤ 2 ^ 29 }
     requires few { pairs < 9000 }
     requires some { 0 < pairs }
 {

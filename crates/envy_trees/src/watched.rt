@@ -101,7 +101,7 @@ impl Words for Watched {
 
 fn watched_index(alloc: Global, size: u32) -> Result<Watched, NoMemory>
     requires least { 640 ≤ size }
-    requires most { size ≤ 2 ^ 25 }
+    requires most { size ≤ 2 ^ 29 }
     ensures { IfOk result (λ watched. IsReady (vec_sheet watched.words)) }
 {
     let words = VecWords::new(alloc, size, 32)?;
@@ -191,7 +191,7 @@ fn misses(rt: &impl Abort, words: &mut Watched, key: u64)
 // Fills a map with all the pairs that it may have, which make so many levels, and empties it.
 fn fills_and_empties(rt: &impl Abort, alloc: Global, size: u32, pairs: u64, levels: u32)
     requires least { 640 ≤ size }
-    requires most { size ≤ 2 ^ 25 }
+    requires most { size ≤ 2 ^ 29 }
     requires few { pairs < 10000 }
 {
     let mut words = watched_index(alloc, size).expect(rt, "no room");

@@ -2,11 +2,13 @@ use Rattle.std.proofs.Common.{◌≡◌, ap, sym, subst, ◌∙◌, ℕ, ◌+◌
 use Rattle.std.specs.Prelude.{Ok, Err, Option}
 use Rattle.envy_base.specs.Words.{Sheet, Spends}
 use Rattle.envy_base.proofs.Working.{Spends-trans}
+use Rattle.envy_range.specs.Lawful.{inside-long}
 use Rattle.envy_range.specs.Ranges.{within}
-use Rattle.envy_btree.specs.Depths.{removal_pages}
+use Rattle.envy_btree.specs.Depths.{dropping_puts, removal_pages}
 use Rattle.envy_btree.specs.Index.{IsIndex}
 use Rattle.envy_btree.specs.Within.{RemovesWithin}
 use Rattle.envy_index_calls.specs.Attempts.{Attempts, HasFailed, Settles, Steady, view_of}
+use Rattle.envy_index_calls.specs.Ranges.{IsRange}
 use Rattle.envy_index_calls.proofs.Attempting.{Through, Viewed, all-stay, failed-below, moved, room-in, saw-removal, settled, settled-removal, size-in, spends-below, steady-trans, through, view-is}
 use Rattle.envy_index_calls.proofs.attempts.remove_in.Goals as goal
 
@@ -32,7 +34,7 @@ remove_within-removed-requires-clause-size g c =
     let v = c.of-view.result in
     let ahead = within v.first v.count (g.W.Words.sheet v.words) in
     let entry : ahead ≡ view_of c.args.range old = view-is c.args.range v.first v.count old (g.W.Words.sheet v.words) c.of-view.ensures.first c.of-view.ensures.count (ap g.W.Words.sheet c.of-view.ensures.words) in
-    subst (λ (s : Sheet). length s.words ≤ 2 ^ 25) (sym entry) (size-in c.args.range old c.requires.range)
+    subst (λ (s : Sheet). length s.words ≤ 2 ^ 29) (sym entry) (size-in c.args.range old c.requires.range)
 
 pub remove_within-removed-requires-clause-map : goal.remove_within-removed-requires-clause-map
 remove_within-removed-requires-clause-map g c =
@@ -62,7 +64,7 @@ returns-in-Ok-clause-spends g c =
     let ahead = within v.first v.count (g.W.Words.sheet v.words) in
     let entry : ahead ≡ view_of c.args.range old = view-is c.args.range v.first v.count old (g.W.Words.sheet v.words) c.of-view.ensures.first c.of-view.ensures.count (ap g.W.Words.sheet c.of-view.ensures.words) in
     let th : Through c.args.range c.args.left old mid (within m.first m.count mid) = through c.args.range m.first m.count c.args.left old mid ahead entry (g.met.W.Words.lawful c.args.words) (g.met.W.Words.lawful m.words) c.requires.range c.remove_within-removed.ensures.works in
-    subst (λ (s : Sheet). Spends 1089 old s) (sym (ap g.W.Words.sheet c.into_words-words.ensures.same)) (spends-below 1089 v.first v.count m.first m.count old (g.W.Words.sheet v.words) mid (ap g.W.Words.sheet c.of-view.ensures.words) c.remove_within-removed.ensures.spends)
+    subst (λ (s : Sheet). Spends (dropping_puts c.args.range.words) old s) (sym (ap g.W.Words.sheet c.into_words-words.ensures.same)) (spends-below (dropping_puts c.args.range.words) v.first v.count m.first m.count old (g.W.Words.sheet v.words) mid (ap g.W.Words.sheet c.of-view.ensures.words) (subst (λ (n : ℕ). Spends (dropping_puts n) ahead (within m.first m.count mid)) (ap (λ (s : Sheet). length s.words) entry ∙ inside-long c.args.range.first c.args.range.words old.words (IsRange.fits c.requires.range)) c.remove_within-removed.ensures.spends))
 
 pub returns-in-Ok-clause-attempts : goal.returns-in-Ok-clause-attempts
 returns-in-Ok-clause-attempts g c =
@@ -125,7 +127,7 @@ returns-in-Err-clause-spends g c =
     let entry : ahead ≡ view_of c.args.range old = view-is c.args.range v.first v.count old (g.W.Words.sheet v.words) c.of-view.ensures.first c.of-view.ensures.count (ap g.W.Words.sheet c.of-view.ensures.words) in
     let th : Through c.args.range c.args.left old mid (within m.first m.count mid) = through c.args.range m.first m.count c.args.left old mid ahead entry (g.met.W.Words.lawful c.args.words) (g.met.W.Words.lawful m.words) c.requires.range c.remove_within-removed.ensures.works in
     let now = g.W.Words.sheet c.settle-fault.new.words in
-    Spends-trans 1089 0 _ _ _ (spends-below 1089 v.first v.count m.first m.count old (g.W.Words.sheet v.words) mid (ap g.W.Words.sheet c.of-view.ensures.words) c.remove_within-removed.ensures.spends) (subst (λ (s : Sheet). Spends 0 s now) (ap g.W.Words.sheet c.into_words-words.ensures.same) c.settle-fault.ensures.spends)
+    Spends-trans (dropping_puts c.args.range.words) 0 _ _ _ (spends-below (dropping_puts c.args.range.words) v.first v.count m.first m.count old (g.W.Words.sheet v.words) mid (ap g.W.Words.sheet c.of-view.ensures.words) (subst (λ (n : ℕ). Spends (dropping_puts n) ahead (within m.first m.count mid)) (ap (λ (s : Sheet). length s.words) entry ∙ inside-long c.args.range.first c.args.range.words old.words (IsRange.fits c.requires.range)) c.remove_within-removed.ensures.spends)) (subst (λ (s : Sheet). Spends 0 s now) (ap g.W.Words.sheet c.into_words-words.ensures.same) c.settle-fault.ensures.spends)
 
 pub returns-in-Err-clause-attempts : goal.returns-in-Err-clause-attempts
 returns-in-Err-clause-attempts g c =

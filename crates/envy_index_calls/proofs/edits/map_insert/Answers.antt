@@ -1,6 +1,7 @@
 use Rattle.std.proofs.Common.{◌≡◌, ap, sym, subst, ◌∙◌, ℕ, List, refl, arith, true, length}
 use Rattle.std.specs.Prelude.{Some, Ok, Result}
 use Rattle.envy_base.specs.Words.{Sheet}
+use Rattle.envy_btree.specs.Depths.{insertion_puts}
 use Rattle.envy_memory.specs.Sheets.{sheet_of}
 use Rattle.envy_btree.specs.Index.{IsIndex}
 use Rattle.envy_calls.specs.declared.code.Code.{Code}
@@ -59,7 +60,7 @@ returns-clause-inserts g c =
     let d = c.insert_in-tried.result.0.begun in
     let back : Back q d = record { opened = c.give_back.ensures.opened; shut = c.give_back.ensures.shut } in
     let e = c.insert_in-tried.ensures in
-    called 841 (Changed c.args.slot c.args.range (Sets c.args.key c.args.value c.told_insert.new.before c.args.range)) (Slot c.args.slot) (Some c.args.range) c.args.place.now c.give_back.new.place p q b c.told_insert.result gv c.give_back.ensures.back (steady-back 841 p q b d e.steady e.spends) (
+    called (insertion_puts c.args.range.words) (Changed c.args.slot c.args.range (Sets c.args.key c.args.value c.told_insert.new.before c.args.range)) (Slot c.args.slot) (Some c.args.range) c.args.place.now c.give_back.new.place p q b c.told_insert.result gv c.give_back.ensures.back (steady-back (insertion_puts c.args.range.words) p q b d e.steady e.spends) (
       insert-changes c.args.slot c.args.range p q b d c.insert_in-tried.result.1 c.told_insert.result _ _ words back c.told_insert.ensures e.attempts,
       λ es map. sets c.args.key c.args.value es c.args.range c.left-left.result p q b d c.insert_in-tried.result.1 c.told_insert.result _ _ words back (left-is p c.left-left.result c.left-left.ensures) c.told_insert.ensures (e.inserts es (subst (λ (ws : List ℕ). IsIndex ws es) (sym (in-range c.args.range b p words)) map)),
     )
@@ -68,4 +69,4 @@ pub returns-clause-unwritten : goal.returns-clause-unwritten
 returns-clause-unwritten g c = set-stays c.insert_in-tried.result.1 c.told_insert.result _ _ c.told_insert.ensures
 
 pub returns-in-Err-clause-inserts : goal.returns-in-Err-clause-inserts
-returns-in-Err-clause-inserts g c = denied 841 (Changed c.args.slot c.args.range (Sets c.args.key c.args.value c.args.before.now c.args.range)) (Slot c.args.slot) (Some c.args.range) c.args.place.now c.lend.new.place c.in-Err.code (λ p. record { off = λ e. (e, λ es map. tt); others = λ e. ((refl, e), λ es map. tt); closed = λ e. ((refl, e), λ es map. tt); past = λ e. ((refl, e), λ es map. tt) }) c.in-Err.ensures
+returns-in-Err-clause-inserts g c = denied (insertion_puts c.args.range.words) (Changed c.args.slot c.args.range (Sets c.args.key c.args.value c.args.before.now c.args.range)) (Slot c.args.slot) (Some c.args.range) c.args.place.now c.lend.new.place c.in-Err.code (λ p. record { off = λ e. (e, λ es map. tt); others = λ e. ((refl, e), λ es map. tt); closed = λ e. ((refl, e), λ es map. tt); past = λ e. ((refl, e), λ es map. tt) }) c.in-Err.ensures

@@ -1,6 +1,7 @@
 use Rattle.std.proofs.Common.{◌≡◌, ap, sym, subst, ◌∙◌, ℕ, List, refl, arith, true, length}
 use Rattle.std.specs.Prelude.{Some, Ok, Result}
 use Rattle.envy_base.specs.Words.{Sheet}
+use Rattle.envy_btree.specs.Depths.{dropping_puts}
 use Rattle.envy_memory.specs.Sheets.{sheet_of}
 use Rattle.envy_btree.specs.Index.{IsIndex}
 use Rattle.envy_calls.specs.declared.code.Code.{Code}
@@ -59,7 +60,7 @@ returns-clause-removes g c =
     let d = c.remove_in-tried.result.0.begun in
     let back : Back q d = record { opened = c.give_back.ensures.opened; shut = c.give_back.ensures.shut } in
     let e = c.remove_in-tried.ensures in
-    called 1089 (Changed c.args.slot c.args.range (Drops c.args.key c.told_removal.new.value c.args.range)) (Slot c.args.slot) (Some c.args.range) c.args.place.now c.give_back.new.place p q b c.told_removal.result gv c.give_back.ensures.back (steady-back 1089 p q b d e.steady e.spends) (
+    called (dropping_puts c.args.range.words) (Changed c.args.slot c.args.range (Drops c.args.key c.told_removal.new.value c.args.range)) (Slot c.args.slot) (Some c.args.range) c.args.place.now c.give_back.new.place p q b c.told_removal.result gv c.give_back.ensures.back (steady-back (dropping_puts c.args.range.words) p q b d e.steady e.spends) (
       removal-changes c.args.slot c.args.range p q b d c.remove_in-tried.result.1 c.told_removal.result _ _ words back c.told_removal.ensures e.attempts e.absent,
       λ es map. drops c.args.key es c.args.range c.left-left.result p q b d c.remove_in-tried.result.1 c.told_removal.result _ _ words back (left-is p c.left-left.result c.left-left.ensures) c.told_removal.ensures (e.removes es (subst (λ (ws : List ℕ). IsIndex ws es) (sym (in-range c.args.range b p words)) map)),
     )
@@ -68,4 +69,4 @@ pub returns-clause-unwritten : goal.returns-clause-unwritten
 returns-clause-unwritten g c = drop-stays c.remove_in-tried.result.1 c.told_removal.result _ _ c.told_removal.ensures
 
 pub returns-in-Err-clause-removes : goal.returns-in-Err-clause-removes
-returns-in-Err-clause-removes g c = denied 1089 (Changed c.args.slot c.args.range (Drops c.args.key c.args.value.now c.args.range)) (Slot c.args.slot) (Some c.args.range) c.args.place.now c.lend.new.place c.in-Err.code (λ p. record { off = λ e. (e, λ es map. tt); others = λ e. ((refl, e), λ es map. tt); closed = λ e. ((refl, e), λ es map. tt); past = λ e. ((refl, e), λ es map. tt) }) c.in-Err.ensures
+returns-in-Err-clause-removes g c = denied (dropping_puts c.args.range.words) (Changed c.args.slot c.args.range (Drops c.args.key c.args.value.now c.args.range)) (Slot c.args.slot) (Some c.args.range) c.args.place.now c.lend.new.place c.in-Err.code (λ p. record { off = λ e. (e, λ es map. tt); others = λ e. ((refl, e), λ es map. tt); closed = λ e. ((refl, e), λ es map. tt); past = λ e. ((refl, e), λ es map. tt) }) c.in-Err.ensures

@@ -40,7 +40,7 @@ fill-filled-requires g c =
     let lent : sheet_of v.words.memory v.words.begun ≡ old = rw c.of-view.ensures.words refl in
     let ahead = within v.first v.count (sheet_of v.words.memory v.words.begun) in
     let entry : ahead ≡ view_of c.args.range old = view-is c.args.range v.first v.count old (sheet_of v.words.memory v.words.begun) c.of-view.ensures.first c.of-view.ensures.count lent in
-    record { size = subst (λ (s : Sheet). length s.words ≤ 2 ^ 25) (sym entry) (size-in c.args.range old fits) }
+    record { size = subst (λ (s : Sheet). length s.words ≤ 2 ^ 29) (sym entry) (size-in c.args.range old fits) }
 
 pub returns-clause-scans : goal.returns-clause-scans
 returns-clause-scans g c =

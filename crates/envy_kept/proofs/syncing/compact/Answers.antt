@@ -12,6 +12,7 @@ returns c =
       syncs = c.compact.ensures.answer;
       synced = c.compact.ensures.synced;
       compact = c.compact.ensures.compact;
+      hindered = c.compact.ensures.hindered;
       kept = c.compact.ensures.kept;
     } in
     subst (λ (o : Option Picture). DoesCompact o (Some c.compact.new.self) c.number-2.result) (sym c.in-Some.is) (c.compact.new.self, refl, compacted)

@@ -6,12 +6,13 @@ use Rattle.envy_places.proofs.syncing.compact_of.Goals as goal
 
 pub returns : goal.returns
 returns g c =
-    let compacted : CompactsTo g.F.OnDisk.is_synced g.F.OnDisk.is_compact c.in-Some.memory c.compact.new.self c.number-2.result = record {
+    let compacted : CompactsTo g.F.OnDisk.is_synced g.F.OnDisk.is_compact g.F.OnDisk.is_hindered c.in-Some.memory c.compact.new.self c.number-2.result = record {
       answer = c.compact.result;
       coded = c.number-2.ensures ∙ ap number_of_place c.compaction_answer.ensures;
       syncs = c.compact.ensures.answer;
       synced = c.compact.ensures.synced;
       compact = c.compact.ensures.compact;
+      hindered = c.compact.ensures.hindered;
       kept = c.compact.ensures.kept;
     } in
-    subst (λ (o : Option Picture). DoesCompact g.F.OnDisk.is_synced g.F.OnDisk.is_compact o (Some c.compact.new.self) c.number-2.result) (sym c.in-Some.is) (c.compact.new.self, refl, compacted)
+    subst (λ (o : Option Picture). DoesCompact g.F.OnDisk.is_synced g.F.OnDisk.is_compact g.F.OnDisk.is_hindered o (Some c.compact.new.self) c.number-2.result) (sym c.in-Some.is) (c.compact.new.self, refl, compacted)

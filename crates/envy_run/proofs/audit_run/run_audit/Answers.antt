@@ -4,8 +4,8 @@ use Rattle.envy_run.specs.Audits.{IsVerdict, Refused, judging, verdict_line}
 use Rattle.envy_run.specs.Meaning.{Does}
 use Rattle.envy_run.specs.Outcome.{outcome_of}
 use Rattle.envy_run.specs.Writing.{WritesAs}
-use Rattle.envy_run.specs.declared.ending.Ending.{Ending}
-use Rattle.envy_run.specs.declared.ending.Finished.{Finished}
+use Rattle.envy_run.specs.declared.endings.Ending.{Ending}
+use Rattle.envy_run.specs.declared.endings.Finished.{Finished}
 use Rattle.envy_run.proofs.Accounts.{writes-as}
 use Rattle.envy_run.proofs.Loaded.{is-large, is-small, no-head, tells-large, tells-refused, tells-judged}
 use Rattle.envy_run.proofs.audit_run.run_audit.Goals as goal

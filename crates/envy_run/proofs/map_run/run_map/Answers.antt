@@ -5,10 +5,10 @@ use Rattle.envy_serve.specs.Streams.{Streams}
 use Rattle.envy_run.specs.Audits.{IsMap, Refused, audit_lives, judging}
 use Rattle.envy_run.specs.Meaning.{Does}
 use Rattle.envy_run.specs.Outcome.{outcome_of}
-use Rattle.envy_run.specs.declared.loading.Refusal.TheVariants.{Memory}
+use Rattle.envy_run.specs.declared.image_input.Refusal.TheVariants.{Memory}
 use Rattle.envy_run.specs.Writing.{WritesAs}
-use Rattle.envy_run.specs.declared.ending.Ending.{Ending}
-use Rattle.envy_run.specs.declared.ending.Finished.{Finished}
+use Rattle.envy_run.specs.declared.endings.Ending.{Ending}
+use Rattle.envy_run.specs.declared.endings.Finished.{Finished}
 use Rattle.envy_run.proofs.Accounts.{writes-as}
 use Rattle.envy_run.proofs.Loaded.{is-large, is-small, memory-unmade, no-head, tells-judged, tells-large, tells-refused, refused-within}
 use Rattle.envy_run.proofs.map_run.run_map.Goals as goal

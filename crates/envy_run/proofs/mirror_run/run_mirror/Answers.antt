@@ -7,8 +7,8 @@ use Rattle.envy_map.specs.Fields.{chart}
 use Rattle.envy_mirror.specs.Pair.{Pair}
 use Rattle.envy_run.proofs.Checked.{shape-of-checked}
 use Rattle.envy_run.specs.Prepares.{ending_of_unready}
-use Rattle.envy_run.specs.declared.ending.Ending.TheVariants.{OutOfMemory}
-use Rattle.envy_run.specs.declared.prepare.Unready.TheVariants.{Memory}
+use Rattle.envy_run.specs.declared.endings.Ending.TheVariants.{OutOfMemory}
+use Rattle.envy_run.specs.declared.preparation.Unready.TheVariants.{Memory}
 use Rattle.envy_run.proofs.Mirrored.{as-made, at-start, blank-made, blank-prepared, blank-board, Stopped, stopped-by, lit-board, not-stopped, mirror-unmade, mirror-unready, are-ready, start_of, begins-as, ended-so, mirror-ended}
 use Rattle.envy_run.proofs.Preparing.{few-none, read-none}
 use Rattle.envy_run.proofs.mirror_run.run_mirror.Goals as goal

@@ -7,7 +7,7 @@ use Rattle.envy_run.specs.Calm.{HasDoneCalmly, NeverDies}
 use Rattle.envy_run.specs.Turns.{trace_grammar}
 use Rattle.envy_run.specs.Headline.{plain_task, zeros_of}
 use Rattle.envy_run.specs.Task.{DoesTask}
-use Rattle.envy_run.specs.declared.ending.Finished.{Finished}
+use Rattle.envy_run.specs.declared.endings.Finished.{Finished}
 use Rattle.envy_run.specs.Outcome.{outcome_of}
 use Rattle.envy_run.proofs.Accounts.{account_of}
 use Rattle.envy_run.proofs.Checked.{shape-of-checked}

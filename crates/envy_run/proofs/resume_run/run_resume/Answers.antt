@@ -6,8 +6,8 @@ use Rattle.envy_policy.specs.declared.setup.Setup.{Setup}
 use Rattle.envy_run.specs.Loading.{Loaded, ending_for}
 use Rattle.envy_run.specs.Outcome.{outcome_of}
 use Rattle.envy_run.specs.Resumes.{setup_found}
-use Rattle.envy_run.specs.declared.ending.Ending.TheVariants.{ImageRefused}
-use Rattle.envy_run.specs.declared.ending.ImageFault.TheVariants.{Unruly, Unsound}
+use Rattle.envy_run.specs.declared.endings.Ending.TheVariants.{ImageRefused}
+use Rattle.envy_run.specs.declared.endings.ImageFault.TheVariants.{Unruly, Unsound}
 use Rattle.envy_run.proofs.Loaded.{is-large, is-small}
 use Rattle.envy_run.proofs.Resumed.{checks-err, checks-ok, installed-given, judged-sound, resume-declined, resume-headless, resume-large, resume-sound, resume-unruly, resume-unsound, stopped-ends}
 use Rattle.envy_run.proofs.resume_run.run_resume.Goals as goal

@@ -3,7 +3,7 @@ use Rattle.envy_base.specs.Shape.{IsShape}
 use Rattle.envy_map.specs.Fields.{chart}
 use Rattle.envy_memory.proofs.AttachLemmas.{formatted-sound}
 use Rattle.envy_run.specs.Loading.{HasTaken}
-use Rattle.envy_run.specs.declared.ending.Ending.TheVariants.{OutOfMemory, PowerLost}
+use Rattle.envy_run.specs.declared.endings.Ending.TheVariants.{OutOfMemory, PowerLost}
 use Rattle.envy_run.proofs.Checked.{shape-of-checked}
 use Rattle.envy_run.proofs.Resumed.{image-ended, image-traced, image-unread}
 use Rattle.envy_run.proofs.resume_run.serve_image.Goals as goal

@@ -6,8 +6,8 @@ use Rattle.envy_serve.specs.Streams.{Streams}
 use Rattle.envy_run.specs.Outcome.{numbers_of, outcome_of}
 use Rattle.envy_run.specs.Task.{DoesTask}
 use Rattle.envy_run.specs.Writing.{WritesOut}
-use Rattle.envy_run.specs.declared.ending.Ending.{Ending}
-use Rattle.envy_run.specs.declared.ending.Ending.TheVariants.{Done}
+use Rattle.envy_run.specs.declared.endings.Ending.{Ending}
+use Rattle.envy_run.specs.declared.endings.Ending.TheVariants.{Done}
 use Rattle.envy_run.proofs.Accounts.{done-alone, ends-as}
 use Rattle.envy_run.proofs.Saved.{saves-nothing, saves-image, board-done, saved-on, saved-some}
 use Rattle.envy_run.proofs.save_run.run_save.Goals as goal

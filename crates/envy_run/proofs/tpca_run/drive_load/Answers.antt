@@ -3,7 +3,7 @@ use Rattle.envy_tpca.specs.Driving.{IsDriven}
 use Rattle.envy_tpca.specs.Load.{Draws}
 use Rattle.envy_run.specs.Drives.{report}
 use Rattle.envy_run.specs.Writing.{WritesAs}
-use Rattle.envy_run.specs.declared.ending.Ending.{Ending}
+use Rattle.envy_run.specs.declared.endings.Ending.{Ending}
 use Rattle.envy_run.proofs.Accounts.{writes-as}
 use Rattle.envy_run.proofs.tpca_run.drive_load.Goals as goal
 

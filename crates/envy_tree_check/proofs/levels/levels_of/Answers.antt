@@ -57,4 +57,4 @@ loop-level-preserved g c =
     }
 
 pub returns-clause-ails : goal.returns-clause-ails
-returns-clause-ails g c free = deep-ails _ free _ _ (subst (λ x. Descends (g.W.Words.sheet c.args.words.now).words c.args.root c.loop-level.piece x) (let e : c.loop-level.level ≡ 6 = omega arith in e) c.loop-level.invariant.way)
+returns-clause-ails g c free = deep-ails _ free _ _ (subst (λ x. Descends (g.W.Words.sheet c.args.words.now).words c.args.root c.loop-level.piece x) (let e : c.loop-level.level ≡ 7 = omega arith in e) c.loop-level.invariant.way)

@@ -35,7 +35,7 @@ returns-clause-synced g c =
     let alive = c.requires.alive in
     let is = j.logged alive in
     rw (c.of-synced.ensures, c.of-before.ensures, alive)
-    (synced_now seen moment j.log j.log a (is.content ∙ ap (λ (p : List Operation). holds a.shape p) c.requires.rests))
+    (synced_now seen moment g.D.Device.hindered j.log j.log a (is.content ∙ ap (λ (p : List Operation). holds a.shape p) c.requires.rests))
 
 pub returns-clause-reads : goal.returns-clause-reads
 returns-clause-reads g c =
@@ -46,4 +46,4 @@ returns-clause-reads g c =
     let alive = c.requires.alive in
     let is = j.logged alive in
     rw (c.of-synced.ensures, c.of-before.ensures, alive)
-    (reads_now seen moment j.log j.log a (is.content ∙ ap (λ (p : List Operation). holds a.shape p) c.requires.rests))
+    (reads_now seen moment g.D.Device.hindered j.log j.log a (is.content ∙ ap (λ (p : List Operation). holds a.shape p) c.requires.rests))

@@ -1,7 +1,6 @@
 use Rattle.std.proofs.Common.{◌≡◌}
 use Rattle.envy_journal.specs.Journal.{journal_state, kept}
-use Rattle.envy_journal.specs.Log.{kept_bytes}
-use Rattle.envy_synced.specs.Number.{number}
+use Rattle.envy_synced.specs.Disk.{told_of}
 use Rattle.envy_synced.proofs.Going.{programs_go, programs_told, went}
 use Rattle.envy_synced.proofs.kept.KeptBoard.program.Goals as goal
 
@@ -27,4 +26,4 @@ returns g c =
     let moment = g.D.Device.moment in
     let s = journal_state j.dead (g.B.Board.state j.board) in
     let t = journal_state new.dead (g.B.Board.state new.board) in
-    programs_told (moment k.synced.value.log.device) (number (kept_bytes seen k.synced.value.log)) (moment k.before.value.log.device) (number (kept_bytes seen k.before.value.log)) s t c.args.row c.args.page.now c.program.result c.program.ensures.state
+    programs_told (moment k.synced.value.log.device) (told_of seen g.D.Device.hindered k.synced.value.log) (moment k.before.value.log.device) (told_of seen g.D.Device.hindered k.before.value.log) s t c.args.row c.args.page.now c.program.result c.program.ensures.state

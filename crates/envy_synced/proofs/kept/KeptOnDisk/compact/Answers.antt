@@ -1,20 +1,18 @@
 use Rattle.std.proofs.Common.{sym}
 use Rattle.std.proofs.lemmas.Bool.{false≢true}
-use Rattle.std.proofs.Common.{◌≡◌, ◌≤◌, ◌∙◌, length, sym, ℕ, Bool, true, List, refl, ap, subst}
+use Rattle.std.proofs.Common.{◌≡◌, ◌≤◌, ◌∙◌, length, sym, ℕ, Bool, true, List, refl, ap, subst, arith}
 use Rattle.envy_journal.specs.declared.operation.Operation.{Operation}
 use Rattle.envy_journal.specs.Content.{content_of, holds}
 use Rattle.envy_journal.specs.Head.{StandsFor}
 use Rattle.envy_journal.specs.Journal.{journal_state, kept}
-use Rattle.envy_journal.specs.Log.{kept_bytes}
 use Rattle.envy_disk.specs.declared.on_disk.Compaction.{Compaction}
 use Rattle.envy_journal.specs.Snapshot.{most_of}
 use Rattle.envy_journal.specs.Snapshot.{limit_of}
 use Rattle.envy_journal.proofs.Condensed.{none_spilled}
 use Rattle.envy_map.specs.Fields.{chart}
-use Rattle.envy_synced.specs.Disk.{IsCompact, IsKept, IsSynced, disk_state}
-use Rattle.envy_synced.specs.Number.{number}
+use Rattle.envy_synced.specs.Disk.{IsCompact, IsHindered, IsKept, IsSynced, disk_state, told_of}
 use Rattle.envy_synced.proofs.Going.{synced, failed, fails_told, stands_now}
-use Rattle.envy_synced.proofs.Telling.{compact_now, synced_now}
+use Rattle.envy_synced.proofs.Telling.{compact_now, hindered_now, synced_now}
 use Rattle.envy_synced.proofs.kept.KeptOnDisk.compact.Goals as goal
 
 pub invariant_of-self : goal.invariant_of-self
@@ -56,7 +54,7 @@ returns-in-Ok-clause-answer g c =
     let new = c.compact.new.self in
     let e = c.in-Ok.ensures in
     rw (c.replace-last.ensures.value, c.replace-last.ensures.after, c.of.ensures, e.ok.still_alive, e.board, e.ok.alive)
-    ((g.met.B.Steady.steady j.board).on, g.D.Device.moment new.log.device, number (kept_bytes g.D.Device.seen new.log), refl)
+    ((g.met.B.Steady.steady j.board).on, g.D.Device.moment new.log.device, told_of g.D.Device.seen g.D.Device.hindered new.log, refl)
 
 pub returns-in-Ok-clause-synced : goal.returns-in-Ok-clause-synced
 returns-in-Ok-clause-synced g c =
@@ -67,7 +65,7 @@ returns-in-Ok-clause-synced g c =
     let b = g.B.Board.state new.board in
     let e = c.in-Ok.ensures in
     let content : content_of b ≡ holds b.shape (kept seen new.log) = (new.logged e.ok.still_alive).content ∙ ap (λ (p : List Operation). holds b.shape p) e.ok.all in
-    let fresh : IsSynced (chart (disk_state seen moment new.log k.synced.value.log b)) = synced_now seen moment new.log k.synced.value.log b content in
+    let fresh : IsSynced (chart (disk_state seen moment g.D.Device.hindered new.log k.synced.value.log b)) = synced_now seen moment g.D.Device.hindered new.log k.synced.value.log b content in
     rw (c.replace-last.ensures.value, c.replace-last.ensures.after, c.of.ensures, e.ok.still_alive) fresh
 
 pub returns-in-Ok-clause-compact : goal.returns-in-Ok-clause-compact
@@ -80,8 +78,19 @@ returns-in-Ok-clause-compact g c = λ done.
     let e = c.in-Ok.ensures in
     let few = e.short (c.made_of-made.ensures.done done) in
     let short = subst (λ (x : g.row.B.Denot). length (seen new.log.device) ≤ most_of (g.B.Board.state x).shape) (sym e.board) few in
-    let compact : IsCompact (chart (disk_state seen moment new.log k.synced.value.log b)) = compact_now seen moment new.log k.synced.value.log b short in
+    let compact : IsCompact (chart (disk_state seen moment g.D.Device.hindered new.log k.synced.value.log b)) = compact_now seen moment g.D.Device.hindered new.log k.synced.value.log b short in
     rw (c.replace-last.ensures.value, c.replace-last.ensures.after, c.of.ensures, e.ok.still_alive) compact
+
+pub returns-in-Ok-clause-hindered : goal.returns-in-Ok-clause-hindered
+returns-in-Ok-clause-hindered g c = λ appended.
+    let k = c.args.self.now in
+    let new = c.compact.new.self in
+    let D = g.D.Device in
+    let b = g.B.Board.state new.board in
+    let e = c.in-Ok.ensures in
+    let more = e.hindered refl (c.made_of-made.ensures.appended appended) in
+    let hindered : IsHindered (chart (disk_state D.seen D.moment D.hindered new.log k.synced.value.log b)) = hindered_now D.seen D.moment D.hindered new.log k.synced.value.log b (omega (arith, more)) in
+    rw (c.replace-last.ensures.value, c.replace-last.ensures.after, c.of.ensures, e.ok.still_alive) hindered
 
 pub returns-in-Err-clause-answer : goal.returns-in-Err-clause-answer
 returns-in-Err-clause-answer g c =
@@ -94,4 +103,4 @@ returns-in-Err-clause-answer g c =
     let before = k.before.value.log in
     let e = c.in-Err.ensures in
     let dead : new.dead ≡ true = e.dead in
-    rw (dead, e.board) (fails_told Compaction (moment was.device) (number (kept_bytes seen was)) (moment before.device) (number (kept_bytes seen before)) j.dead (g.B.Board.state j.board) _ (g.met.B.Steady.steady j.board).on)
+    rw (dead, e.board) (fails_told Compaction (moment was.device) (told_of seen g.D.Device.hindered was) (moment before.device) (told_of seen g.D.Device.hindered before) j.dead (g.B.Board.state j.board) _ (g.met.B.Steady.steady j.board).on)

@@ -5,12 +5,10 @@ use Rattle.envy_journal.specs.declared.operation.Operation.{Operation}
 use Rattle.envy_journal.specs.Content.{content_of, holds}
 use Rattle.envy_journal.specs.Head.{StandsFor}
 use Rattle.envy_journal.specs.Journal.{journal_state, kept}
-use Rattle.envy_journal.specs.Log.{kept_bytes}
 use Rattle.envy_journal.specs.Snapshot.{limit_of}
 use Rattle.envy_journal.proofs.Condensed.{none_spilled}
 use Rattle.envy_map.specs.Fields.{chart}
-use Rattle.envy_synced.specs.Disk.{IsKept, IsSynced, disk_state}
-use Rattle.envy_synced.specs.Number.{number}
+use Rattle.envy_synced.specs.Disk.{IsKept, IsSynced, disk_state, told_of}
 use Rattle.envy_synced.proofs.Going.{synced, failed, fails_told, stands_now}
 use Rattle.envy_synced.proofs.Telling.{synced_now}
 use Rattle.envy_synced.proofs.kept.KeptOnDisk.sync.Goals as goal
@@ -54,7 +52,7 @@ returns-in-Ok-clause-answer g c =
     let new = c.sync.new.self in
     let e = c.in-Ok.ensures in
     rw (c.replace.ensures.value, c.replace.ensures.after, c.of.ensures, e.ok.still_alive, e.board, e.ok.alive)
-    ((g.met.B.Steady.steady j.board).on, g.D.Device.moment new.log.device, number (kept_bytes g.D.Device.seen new.log), refl)
+    ((g.met.B.Steady.steady j.board).on, g.D.Device.moment new.log.device, told_of g.D.Device.seen g.D.Device.hindered new.log, refl)
 
 pub returns-in-Ok-clause-synced : goal.returns-in-Ok-clause-synced
 returns-in-Ok-clause-synced g c =
@@ -65,7 +63,7 @@ returns-in-Ok-clause-synced g c =
     let b = g.B.Board.state new.board in
     let e = c.in-Ok.ensures in
     let content : content_of b ≡ holds b.shape (kept seen new.log) = (new.logged e.ok.still_alive).content ∙ ap (λ (p : List Operation). holds b.shape p) e.ok.all in
-    let fresh : IsSynced (chart (disk_state seen moment new.log k.synced.value.log b)) = synced_now seen moment new.log k.synced.value.log b content in
+    let fresh : IsSynced (chart (disk_state seen moment g.D.Device.hindered new.log k.synced.value.log b)) = synced_now seen moment g.D.Device.hindered new.log k.synced.value.log b content in
     rw (c.replace.ensures.value, c.replace.ensures.after, c.of.ensures, e.ok.still_alive) fresh
 
 pub returns-in-Err-clause-answer : goal.returns-in-Err-clause-answer
@@ -79,4 +77,4 @@ returns-in-Err-clause-answer g c =
     let before = k.before.value.log in
     let e = c.in-Err.ensures in
     let dead : new.dead ≡ true = e.dead in
-    rw (dead, e.board) (fails_told (Unit {0}) (moment was.device) (number (kept_bytes seen was)) (moment before.device) (number (kept_bytes seen before)) j.dead (g.B.Board.state j.board) _ (g.met.B.Steady.steady j.board).on)
+    rw (dead, e.board) (fails_told (Unit {0}) (moment was.device) (told_of seen g.D.Device.hindered was) (moment before.device) (told_of seen g.D.Device.hindered before) j.dead (g.B.Board.state j.board) _ (g.met.B.Steady.steady j.board).on)

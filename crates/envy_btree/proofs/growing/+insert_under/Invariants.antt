@@ -1,4 +1,0 @@
-use Rattle.envy_btree.proofs.growing.+insert_under.Given as goal
-
-abbrev pub decreases-insert_under : goal.decreases-insert_under
-decreases-insert_under g l = l.level

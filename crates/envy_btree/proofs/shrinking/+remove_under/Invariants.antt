@@ -1,4 +1,0 @@
-use Rattle.envy_btree.proofs.shrinking.+remove_under.Given as goal
-
-abbrev pub decreases-remove_under : goal.decreases-remove_under
-decreases-remove_under g l = l.level
