@@ -1,11 +1,12 @@
 // Maps in ranges of the array of a memory, and transactions of several, by numbers.
 ghost use Rattle.std.specs.Prelude.{◌≡◌, ◌≢◌, ◌≤◌, length, drop};
 ghost use Rattle.std.specs.Option.{ForSome};
+ghost use Rattle.envy_btree.specs.Depths.{dropping_puts, insertion_puts};
 ghost use Rattle.envy_btree.specs.Nearest.{pairs_from, pairs_to};
 ghost use Rattle.envy_calls.specs.Codes.{number_of};
 ghost use Rattle.envy_calls.specs.declared.code.Code.TheVariants.{Done};
 ghost use Rattle.envy_index_calls.specs.Indexed.{Counts, Gets, Scans, creation_puts};
-ghost use Rattle.envy_index_calls.specs.Ranged.{Aborts, Calls, Changed, Commits, CreatesIn, Drops, HoldsMapIn, Kept, Sets, Starts, dropping_puts, insertion_puts};
+ghost use Rattle.envy_index_calls.specs.Ranged.{Aborts, Calls, Changed, Commits, CreatesIn, Drops, HoldsMapIn, Kept, Sets, Starts};
 ghost use Rattle.envy_index_calls.specs.Ranges.{MayHold};
 ghost use Rattle.envy_index_calls.specs.Scanned.{pairs_in};
 ghost use Rattle.envy_openings.specs.Faultless.{AreFaultless};
@@ -68,7 +69,7 @@ pub extern "C" fn envy_map_insert(
     ensures live { InBlock m.new.at }
     ensures faultless { AreFaultless m.old.place.now m.new.place.now }
     ensures alike { AreAlike m.old.place.now m.new.place.now }
-    ensures inserts { Calls insertion_puts (Changed slot range.now (Sets key value before.new range.now)) (held m.old.place.now) (held m.new.place.now) result }
+    ensures inserts { Calls (insertion_puts range.now.words) (Changed slot range.now (Sets key value before.new range.now)) (held m.old.place.now) (held m.new.place.now) result }
     ensures unwritten { result ≢ number_of Done → before.new ≡ before.old }
 {
     let place = lend(m);
@@ -91,7 +92,7 @@ pub extern "C" fn envy_map_remove(
     ensures live { InBlock m.new.at }
     ensures faultless { AreFaultless m.old.place.now m.new.place.now }
     ensures alike { AreAlike m.old.place.now m.new.place.now }
-    ensures removes { Calls dropping_puts (Changed slot range.now (Drops key value.new range.now)) (held m.old.place.now) (held m.new.place.now) result }
+    ensures removes { Calls (dropping_puts range.now.words) (Changed slot range.now (Drops key value.new range.now)) (held m.old.place.now) (held m.new.place.now) result }
     ensures unwritten { result ≢ number_of Done → value.new ≡ value.old }
 {
     let place = lend(m);

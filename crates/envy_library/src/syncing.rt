@@ -3,7 +3,7 @@ ghost use Rattle.std.specs.Prelude.{◌≡◌};
 ghost use Rattle.envy_openings.specs.Faultless.{AreFaultless};
 ghost use Rattle.envy_places.specs.Places.{held};
 ghost use Rattle.envy_places.specs.Syncing.{DoesCompact, DoesSync, DoesTellPower, OnFile};
-ghost use Rattle.envy_synced.specs.Disk.{IsCompact, IsSynced};
+ghost use Rattle.envy_synced.specs.Disk.{IsCompact, IsHindered, IsSynced};
 ghost use denote.RawPtr.{InBlock};
 
 use crate::handle::{Envy, give_back, lend};
@@ -29,7 +29,7 @@ pub extern "C" fn envy_compact(m: &mut Envy) -> u32
     requires { InBlock m.old.at }
     ensures live { InBlock m.new.at }
     ensures faultless { AreFaultless m.old.place.now m.new.place.now }
-    ensures compacts { OnFile (DoesCompact IsSynced IsCompact) m.old.place.now m.new.place.now result }
+    ensures compacts { OnFile (DoesCompact IsSynced IsCompact IsHindered) m.old.place.now m.new.place.now result }
 {
     let place = lend(m);
     let code = compact(place);
