@@ -3,7 +3,7 @@ use Rattle.std.proofs.Common.{◌≡◌, ◌⊎◌, inl, inr, ℕ, ◌+◌, ◌�
 use Rattle.std.proofs.lemmas.Bool.{cases_lt}
 use Rattle.std.proofs.lemmas.List.{take_all, take-append-le}
 use Rattle.envy_device.specs.Device.{Elapses}
-use Rattle.envy_torn.specs.declared.torn.Call.{Call}
+use Rattle.envy_torn.specs.declared.call.Call.{Call}
 use Rattle.envy_torn.specs.Calls.{seen_by, seen_after, Leaves, Outcome, OutcomeOf, LeftBy}
 
 -- one call more is seen

@@ -4,8 +4,8 @@ use Rattle.std.proofs.lemmas.Bool.{false≢true}
 use Rattle.std.proofs.lemmas.List.{take_all}
 use Rattle.envy_device.specs.Device.{Torn, Mixed, Cut, Follows, Elapses, Serves}
 use Rattle.envy_device.specs.declared.device.DeviceFailed.{DeviceFailed}
-use Rattle.envy_torn.specs.declared.torn.Call.{Call}
-use Rattle.envy_torn.specs.declared.torn.Call.TheVariants.{Sync, BadWrite}
+use Rattle.envy_torn.specs.declared.call.Call.{Call}
+use Rattle.envy_torn.specs.declared.call.Call.TheVariants.{Sync, BadWrite}
 use Rattle.envy_torn.specs.declared.torn.TornFile.{TornFile}
 use Rattle.envy_torn.specs.Calls.{seen_by, seen_after, sync_in, syncs_in, Tears, Leaves, OutcomeOf, LeftBy}
 use Rattle.envy_torn.specs.Torn.{file_bytes, file_outcome, file_left, file_syncs, Kept, Noted, Finished, Unwritten}

@@ -1,7 +1,7 @@
 -- What a file that keeps all its calls holds, and what a crash may leave of it.
 use Rattle.std.specs.Prelude.{◌≡◌, ◌⊎◌, ℕ, ◌+◌, ◌≤◌, Bool, true, false, List, [], ◌∷◌, ◌++◌, length, take, drop}
-use Rattle.envy_torn.specs.declared.torn.Call.{Call}
-use Rattle.envy_torn.specs.declared.torn.Call.TheVariants.{Write, Cut as CutCall, Sync, Replace, BadWrite, BadCut, BadReplace}
+use Rattle.envy_torn.specs.declared.call.Call.{Call}
+use Rattle.envy_torn.specs.declared.call.Call.TheVariants.{Write, Cut as CutCall, Sync, Replace, BadWrite, BadCut, BadReplace}
 use Rattle.envy_device.specs.Device.{Torn, Mixed, Cut}
 
 -- old with these bytes at this offset

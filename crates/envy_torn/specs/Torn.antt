@@ -5,8 +5,8 @@ use Rattle.std.proofs.Common.{subst, sym, arith}
 use Rattle.std.proofs.lemmas.List.{take_all}
 use Rattle.envy_device.specs.declared.device.DeviceFailed.{DeviceFailed}
 use Rattle.envy_record.specs.Calls.{hindrances}
-use Rattle.envy_torn.specs.declared.torn.Call.{Call}
-use Rattle.envy_torn.specs.declared.torn.Call.TheVariants.{BadWrite}
+use Rattle.envy_torn.specs.declared.call.Call.{Call}
+use Rattle.envy_torn.specs.declared.call.Call.TheVariants.{BadWrite}
 use Rattle.envy_torn.specs.declared.torn.TornFile.{TornFile}
 use Rattle.envy_torn.specs.Calls.{OutcomeOf, LeftBy, syncs_in}
 

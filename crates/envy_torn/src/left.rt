@@ -4,7 +4,7 @@ ghost use Rattle.envy_device.specs.Device.{Only};
 ghost use Rattle.envy_torn.specs.Left.{disk_bytes, held_bytes};
 ghost use Rattle.envy_torn.specs.Torn.{file_bytes, file_bytewise, file_failed, file_outcome};
 
-use crate::torn::follow;
+use crate::call::follow;
 use crate::{Dice, TornFile};
 use std::alloc::{AllocError, Global};
 

@@ -4,26 +4,12 @@ ghost use Rattle.std.specs.Prelude.{◌≡◌, ◌≤◌, ℕ, List, [], ◌∷�
 ghost use Rattle.envy_torn.specs.Calls.{seen_after, written};
 
 use crate::Dice;
-use crate::drawn::{cut_some, mix, tear, write_anew, write_over};
+use crate::call::{Call, add_call, follow};
+use crate::drawn::{cut_some, mix, tear, write_anew};
 use envy_device::{Device, DeviceFailed, Place, ReplaceError, SecondFailed};
 use envy_record::{Made, Record};
 use std::alloc::{AllocError, Global};
 use std::mem;
-
-/// What was asked of a file.
-#[derive(Drop)]
-pub enum Call {
-    Write { at: usize, bytes: Vec<u8> },
-    Cut { len: usize },
-    Sync,
-    /// These bytes take the place of all.
-    Replace { bytes: Vec<u8> },
-    /// A write or a cut that failed, of which any part may be done.
-    BadWrite { at: usize, bytes: Vec<u8> },
-    BadCut { len: usize },
-    /// A replacement that failed. It may be done.
-    BadReplace { bytes: Vec<u8> },
-}
 
 /// A file in memory, whose calls fail from a planned one on.
 #[derive(Drop)]
@@ -255,25 +241,6 @@ impl TornFile {
             Err(_) => self.failed = true,
         }
     }
-}
-
-// Makes a file what a call makes of it.
-pub(crate) fn follow(seen: &mut Vec<u8>, call: &Call) -> Result<(), AllocError> {
-    match call {
-        Call::Write { at, bytes } => write_over(seen, *at, bytes)?,
-        Call::Cut { len } => seen.truncate(*len),
-        Call::Replace { bytes } => write_anew(seen, bytes)?,
-        Call::Sync | Call::BadWrite { .. } | Call::BadCut { .. } | Call::BadReplace { .. } => {}
-    }
-    Ok(())
-}
-
-// Adds a call, where there is memory for it.
-fn add_call(calls: &mut Vec<Call>, call: Call) -> bool
-    ensures added { result ≡ true → calls.new.items ≡ calls.old.items ++ call ∷ [] }
-    ensures full { result ≡ false → calls.new.items ≡ calls.old.items }
-{
-    calls.push(call).is_ok()
 }
 
 // The bytes, two times.

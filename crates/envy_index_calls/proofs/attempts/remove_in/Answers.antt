@@ -1,7 +1,7 @@
-use Rattle.std.proofs.Common.{◌≡◌, ap, sym, subst, ◌∙◌, ℕ, ◌+◌, ◌^◌, ◌≤◌, true, length, List}
+use Rattle.std.proofs.Common.{◌≡◌, ap, sym, subst, ◌∙◌, ℕ, ◌+◌, ◌^◌, ◌≤◌, true, length, List, arith}
 use Rattle.std.specs.Prelude.{Ok, Err, Option}
 use Rattle.envy_base.specs.Words.{Sheet, Spends}
-use Rattle.envy_base.proofs.Working.{Spends-trans}
+use Rattle.envy_base.proofs.Working.{Spends-then}
 use Rattle.envy_range.specs.Lawful.{inside-long}
 use Rattle.envy_range.specs.Ranges.{within}
 use Rattle.envy_btree.specs.Depths.{dropping_puts, removal_pages}
@@ -127,7 +127,7 @@ returns-in-Err-clause-spends g c =
     let entry : ahead ≡ view_of c.args.range old = view-is c.args.range v.first v.count old (g.W.Words.sheet v.words) c.of-view.ensures.first c.of-view.ensures.count (ap g.W.Words.sheet c.of-view.ensures.words) in
     let th : Through c.args.range c.args.left old mid (within m.first m.count mid) = through c.args.range m.first m.count c.args.left old mid ahead entry (g.met.W.Words.lawful c.args.words) (g.met.W.Words.lawful m.words) c.requires.range c.remove_within-removed.ensures.works in
     let now = g.W.Words.sheet c.settle-fault.new.words in
-    Spends-trans (dropping_puts c.args.range.words) 0 _ _ _ (spends-below (dropping_puts c.args.range.words) v.first v.count m.first m.count old (g.W.Words.sheet v.words) mid (ap g.W.Words.sheet c.of-view.ensures.words) (subst (λ (n : ℕ). Spends (dropping_puts n) ahead (within m.first m.count mid)) (ap (λ (s : Sheet). length s.words) entry ∙ inside-long c.args.range.first c.args.range.words old.words (IsRange.fits c.requires.range)) c.remove_within-removed.ensures.spends)) (subst (λ (s : Sheet). Spends 0 s now) (ap g.W.Words.sheet c.into_words-words.ensures.same) c.settle-fault.ensures.spends)
+    Spends-then (dropping_puts c.args.range.words) 0 (dropping_puts c.args.range.words) _ _ _ (omega arith) (spends-below (dropping_puts c.args.range.words) v.first v.count m.first m.count old (g.W.Words.sheet v.words) mid (ap g.W.Words.sheet c.of-view.ensures.words) (subst (λ (n : ℕ). Spends (dropping_puts n) ahead (within m.first m.count mid)) (ap (λ (s : Sheet). length s.words) entry ∙ inside-long c.args.range.first c.args.range.words old.words (IsRange.fits c.requires.range)) c.remove_within-removed.ensures.spends)) (subst (λ (s : Sheet). Spends 0 s now) (ap g.W.Words.sheet c.into_words-words.ensures.same) c.settle-fault.ensures.spends)
 
 pub returns-in-Err-clause-attempts : goal.returns-in-Err-clause-attempts
 returns-in-Err-clause-attempts g c =

@@ -28,8 +28,8 @@ of-view-requires-clause-fits g c =
     let gv = given Any (Some c.args.range) c.args.place.now c.lend.new.place p b c.in-Ok.ensures in
     IsRange.fits (range-words c.args.range b p (range-in c.args.place.now Any c.args.range p b gv))
 
-pub check-checked-requires-clause-size : goal.check-checked-requires-clause-size
-check-checked-requires-clause-size g c =
+pub check-checked-requires : goal.check-checked-requires
+check-checked-requires g c =
     let p = c.in-Ok.words.memory in
     let b = c.in-Ok.words.begun in
     let gv = given Any (Some c.args.range) c.args.place.now c.lend.new.place p b c.in-Ok.ensures in
@@ -39,7 +39,7 @@ check-checked-requires-clause-size g c =
     let lent : sheet_of v.words.memory v.words.begun ≡ old = rw c.of-view.ensures.words refl in
     let ahead = within v.first v.count (sheet_of v.words.memory v.words.begun) in
     let entry : ahead ≡ view_of c.args.range old = view-is c.args.range v.first v.count old (sheet_of v.words.memory v.words.begun) c.of-view.ensures.first c.of-view.ensures.count lent in
-    subst (λ (s : Sheet). length s.words ≤ 2 ^ 29) (sym entry) (size-in c.args.range old fits)
+    record { size = subst (λ (s : Sheet). length s.words ≤ 2 ^ 29) (sym entry) (size-in c.args.range old fits) }
 
 pub returns-clause-checks : goal.returns-clause-checks
 returns-clause-checks g c =

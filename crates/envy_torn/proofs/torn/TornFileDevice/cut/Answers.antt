@@ -1,6 +1,6 @@
 use Rattle.std.proofs.Common.{◌∙◌, ℕ, List, take, refl, sym, ap, subst}
 use Rattle.envy_device.specs.Device.{Cut}
-use Rattle.envy_torn.specs.declared.torn.Call.TheVariants.{Cut as CutCall, BadCut}
+use Rattle.envy_torn.specs.declared.call.Call.TheVariants.{Cut as CutCall, BadCut}
 use Rattle.envy_torn.specs.Torn.{file_bytes}
 use Rattle.envy_torn.proofs.Written.{syncs_finished, syncs_failed, cut_none, bytes_kept, time_finished, synced_finished, bytewise_finished, crash_finished, time_failed, synced_failed, bytewise_failed, bytes_failed, crash_failed, bytes_finished, same_finished, serves_finished}
 use Rattle.envy_torn.proofs.torn.TornFileDevice.cut.Goals as goal

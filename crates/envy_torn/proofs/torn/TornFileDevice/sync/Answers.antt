@@ -1,6 +1,6 @@
 use Rattle.std.proofs.Common.{rules, ◌∙◌, ap, arith}
 use Rattle.envy_torn.specs.Calls.{syncs_in}
-use Rattle.envy_torn.specs.declared.torn.Call.TheVariants.{Sync}
+use Rattle.envy_torn.specs.declared.call.Call.TheVariants.{Sync}
 use Rattle.envy_torn.proofs.Written.{syncs_kept, syncs_more, sync_seen, sync_only, sync_crash, sync_time}
 use Rattle.envy_torn.proofs.torn.TornFileDevice.sync.Goals as goal
 

@@ -1,6 +1,6 @@
 use Rattle.std.proofs.Common.{◌∙◌, ℕ, List, length, refl, sym, ap, subst}
 use Rattle.envy_device.specs.Device.{Torn, Mixed}
-use Rattle.envy_torn.specs.declared.torn.Call.TheVariants.{Write}
+use Rattle.envy_torn.specs.declared.call.Call.TheVariants.{Write}
 use Rattle.envy_torn.specs.Calls.{written}
 use Rattle.envy_torn.specs.Torn.{file_bytes}
 use Rattle.envy_torn.proofs.Written.{syncs_finished, syncs_unwritten, torn_none, mixed_none, tears_torn, tears_mixed, bytes_kept, time_finished, synced_finished, bytewise_finished, crash_finished, bytes_finished, same_finished, serves_finished, torn_unwritten, crash_unwritten, time_unwritten, synced_unwritten, bytewise_unwritten}

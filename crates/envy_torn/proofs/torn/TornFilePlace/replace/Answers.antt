@@ -1,5 +1,5 @@
 use Rattle.std.proofs.Common.{◌≡◌, ⊎_elim, ◌∙◌, inl, inr, ℕ, Vec, Global, ap, refl}
-use Rattle.envy_torn.specs.declared.torn.Call.TheVariants.{Replace, BadReplace}
+use Rattle.envy_torn.specs.declared.call.Call.TheVariants.{Replace, BadReplace}
 use Rattle.envy_torn.proofs.Written.{noted_after, bytes_noted, outcome_noted, time_noted, time_failed, bytes_failed, bytewise_failed, crash_unreplaced}
 use Rattle.envy_torn.specs.declared.torn.TornFile.{TornFile}
 use Rattle.envy_torn.specs.Torn.{Kept}
