@@ -25,7 +25,7 @@
      a handle.
    - One call at a time uses a handle. It may use it from any thread if it orders the calls itself.
    - Every pointer is to memory that is there, aligned, of the size that is said, and in no two arguments at once. None is
-     NULL, also not that of no words, except `holder`, `done` and `before`, if the program doesn't ask for them.
+     NULL, also not that of no words, except `holder`, `done`, `before` and `rule`, if the program doesn't ask for them.
    - From the call that gives regions until envy_close, or until a call that gave them is refused, nobody else reads or
      writes the regions, or unmaps them.
    - rattle_alloc, rattle_realloc and rattle_dealloc are those of heap.c, or do the same.
@@ -298,6 +298,8 @@ uint32_t envy_map_abort(envy *m, uint32_t slot);
 /* Writes the value of a key, or how many pairs a map has, or pairs, as the calls of the whole array do. */
 uint32_t envy_map_get(envy *m, const envy_map *map, uint64_t key, uint64_t *value);
 uint32_t envy_map_count(envy *m, const envy_map *map, uint64_t *count);
+/* (of envy_map_check: ENVY_DONE, the words of the range stand for a map; or ENVY_BROKEN_MAP, with the rule at *rule) */
+uint32_t envy_map_check(envy *m, const envy_map *map, uint32_t *rule);
 uint32_t envy_map_scan(envy *m, const envy_map *map, uint64_t key, envy_pair *pairs, size_t n, size_t *count);
 uint32_t envy_map_scan_down(envy *m, const envy_map *map, uint64_t key, envy_pair *pairs, size_t n, size_t *count);
 

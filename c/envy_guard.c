@@ -65,6 +65,7 @@ CALL(map_commit, (envy *m, uint32_t slot), (m, slot))
 CALL(map_abort, (envy *m, uint32_t slot), (m, slot))
 CALL(map_get, (envy *m, const envy_map *map, uint64_t key, uint64_t *value), (m, map, key, value))
 CALL(map_count, (envy *m, const envy_map *map, uint64_t *count), (m, map, count))
+CALL(map_check, (envy *m, const envy_map *map, uint32_t *rule), (m, map, OR_PLACE(rule, uint32_t)))
 CALL(map_scan, (envy *m, const envy_map *map, uint64_t key, envy_pair *pairs, size_t n, size_t *count),
      (m, map, key, pairs, n, count))
 CALL(map_scan_down, (envy *m, const envy_map *map, uint64_t key, envy_pair *pairs, size_t n, size_t *count),

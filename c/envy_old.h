@@ -50,6 +50,7 @@
 #define envy_kept_map_abort envy_map_abort
 #define envy_kept_map_get envy_map_get
 #define envy_kept_map_count envy_map_count
+#define envy_kept_map_check envy_map_check
 #define envy_kept_map_scan envy_map_scan
 #define envy_kept_map_scan_down envy_map_scan_down
 

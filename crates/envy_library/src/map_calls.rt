@@ -4,9 +4,9 @@ ghost use Rattle.std.specs.Option.{ForSome};
 ghost use Rattle.envy_btree.specs.Depths.{dropping_puts, insertion_puts};
 ghost use Rattle.envy_btree.specs.Nearest.{pairs_from, pairs_to};
 ghost use Rattle.envy_calls.specs.Codes.{number_of};
-ghost use Rattle.envy_calls.specs.declared.code.Code.TheVariants.{Done};
+ghost use Rattle.envy_calls.specs.declared.code.Code.TheVariants.{BrokenMap, Done};
 ghost use Rattle.envy_index_calls.specs.Indexed.{Counts, Gets, Scans, creation_puts};
-ghost use Rattle.envy_index_calls.specs.Ranged.{Aborts, Calls, Changed, Commits, CreatesIn, Drops, HoldsMapIn, Kept, Sets, Starts};
+ghost use Rattle.envy_index_calls.specs.Ranged.{Aborts, Calls, Changed, Checks, Commits, CreatesIn, Drops, HoldsMapIn, Kept, Sets, Starts};
 ghost use Rattle.envy_index_calls.specs.Ranges.{MayHold};
 ghost use Rattle.envy_index_calls.specs.Scanned.{pairs_in};
 ghost use Rattle.envy_openings.specs.Faultless.{AreFaultless};
@@ -16,8 +16,8 @@ ghost use denote.RawPtr.{InBlock};
 use crate::handle::{Envy, give_back, lend};
 use envy_index_calls::{EnvyMap, EnvyOld, EnvyPair};
 use envy_places::{
-    map_abort, map_begin, map_commit, map_count, map_create, map_get, map_insert, map_remove,
-    map_scan, map_scan_down,
+    map_abort, map_begin, map_check, map_commit, map_count, map_create, map_get, map_insert,
+    map_remove, map_scan, map_scan_down,
 };
 
 /// Begins a transaction of maps, and answers its slot, which is the first. No slot may be open.
@@ -163,6 +163,23 @@ pub extern "C" fn envy_map_count(m: &mut Envy, range: &EnvyMap, number: &mut u64
 {
     let place = lend(m);
     let code = map_count(place, *range, number);
+    give_back(m, place);
+    code.number()
+}
+
+/// Whether the words of a range stand for a map. If they stand for none, the rule that they break is written at `rule`.
+#[unsafe(no_mangle)]
+pub extern "C" fn envy_map_check(m: &mut Envy, range: &EnvyMap, rule: &mut u32) -> u32
+    requires place { InBlock m.old.at }
+    requires array { ForSome (held m.old.place.now) MayHold }
+    ensures live { InBlock m.new.at }
+    ensures faultless { AreFaultless m.old.place.now m.new.place.now }
+    ensures alike { AreAlike m.old.place.now m.new.place.now }
+    ensures checks { Calls 0 (Checks range.now rule.new) (held m.old.place.now) (held m.new.place.now) result }
+    ensures unwritten { result ≢ number_of BrokenMap → rule.new ≡ rule.old }
+{
+    let place = lend(m);
+    let code = map_check(place, *range, rule);
     give_back(m, place);
     code.number()
 }
