@@ -1,4 +1,4 @@
-/* What envy_sim.h, envy_mapped.h, envy_parted.h and envy_kept.h share: the numbers of answers, the setup of a memory, and its counters. */
+/* What envy.h, envy_sim.h, envy_mapped.h, envy_parted.h and envy_kept.h share: the numbers of answers, the setup of a memory, and its counters. */
 #ifndef ENVY_CODES_H
 #define ENVY_CODES_H
 
@@ -99,7 +99,10 @@ enum envy_code {
     ENVY_NO_JOURNAL = 72,     /* the file holds something else, or a journal of no memory */
     ENVY_OTHER_JOURNAL = 73,  /* the file is a journal of a version that isn't known here */
     ENVY_DAMAGED = 74,        /* the file is a journal that no crash leaves so: something else changed it */
-    ENVY_APPENDED = 75        /* all is on the disk, as after a sync, but the second file of a compaction failed */
+    ENVY_APPENDED = 75,       /* all is on the disk, as after a sync, but the second file of a compaction failed */
+
+    /* of envy.h */
+    ENVY_OTHER_BOARD = 76     /* what the memory stands over can't do this */
 };
 
 /* What calls that open files answer beside an envy_code. */
@@ -145,6 +148,19 @@ typedef struct envy_words {
     uint64_t *at;
     size_t len;
 } envy_words;
+
+/* A region of rows of 32 words. */
+typedef struct envy_rows {
+    uint64_t (*at)[32];
+    size_t len;
+} envy_rows;
+
+/* The sizes of the regions that a setup asks for. */
+typedef struct envy_sizes {
+    uint64_t rows;   /* of flash, 256 bytes each */
+    uint64_t words;  /* of SRAM, 8 bytes each */
+    uint64_t erases; /* counts of erases, 8 bytes each */
+} envy_sizes;
 
 /* What a memory has done since it was formatted or attached. Each counter stops at 2^64 - 1. */
 typedef struct envy_counts {

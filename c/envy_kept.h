@@ -22,7 +22,7 @@
    - Every pointer is to memory that is there, aligned, of the size that is said, and in no two arguments at once. None
      is NULL, also not that of no words, except `holder` and `done`, if the program doesn't ask for them.
    - rattle_alloc, rattle_realloc and rattle_dealloc are those of heap.c, or do the same.
-   - Of the file what is said below at envy_disk.
+   - Of the file what is said in envy_disk.h.
 
    If a call answers anything but ENVY_DONE, what its pointers point to is as before, except for ENVY_HELD and *done of
    envy_kept_write and envy_kept_store_run. If several answers would be right, it is the first of them in the order in
@@ -31,52 +31,11 @@
 #define ENVY_KEPT_H
 
 #include "envy_codes.h"
+#include "envy_disk.h"
 
 #ifdef __cplusplus
 extern "C" {
 #endif
-
-/* What serves the file of one memory, by calls that answer 0 if they did what they say, and anything else if they may
-   have done any part of it. After such an answer of write, cut or sync none of them is called again. After one of begin or
-   append, or ENVY_NOT_REPLACED of replace, the next call on the second file, if there is one, is begin.
-
-   What is promised of them:
-   1. Until a sync, a stop of the machine may leave of each range that was written or cut any bytes, in any order; what
-      was in the file when a sync answered 0 stays, except what was written since.
-   2. `replace` brings the second file to the disk first, then puts it under the file's name, and answers 0 once that
-      name is on the disk. A stop of the machine in it leaves the old file or the second one, whole. From then on the
-      other calls are about the file that has the name. It answers ENVY_NOT_REPLACED only if the second file isn't under
-      that name, and won't be after a stop of the machine; after any other answer none of the calls is made again.
-   3. Nobody else writes the file while it is open.
-
-   A call that is interrupted or writes less than it was given continues by itself. */
-typedef struct envy_disk {
-    void *context; /* handed to each call */
-    /* Writes all n bytes at an offset that lies in the file or at its end. */
-    int (*write)(void *context, uint64_t at, const void *bytes, size_t n);
-    /* Cuts the file to a size. */
-    int (*cut)(void *context, uint64_t size);
-    /* Brings all that was written to the disk. */
-    int (*sync)(void *context);
-    /* Makes a second file beside the first, or cuts it to no bytes. */
-    int (*begin)(void *context);
-    /* Writes all n bytes after those of the second file. */
-    int (*append)(void *context, const void *bytes, size_t n);
-    /* Puts the second file in the first one's place. */
-    int (*replace)(void *context);
-} envy_disk;
-
-/* The answer of `replace` if the second file wasn't put in the first one's place, which is as it was. */
-enum { ENVY_NOT_REPLACED = 2 };
-
-/* How many files may be served at a time. */
-enum { ENVY_DISKS = 256 };
-
-/* The number of a port to a file, or -1 if ENVY_DISKS are open. The disk must stay where it is. Any thread may call. */
-int32_t envy_disk_open(const envy_disk *disk);
-
-/* Ends a port to a file that no memory uses any more. */
-void envy_disk_close(int32_t port);
 
 /* A place for a memory. */
 typedef struct envy_kept {

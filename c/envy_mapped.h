@@ -42,19 +42,6 @@ typedef struct envy_mapped {
 /* an earlier name, for programs that have it */
 #define ENVY_NO_MAPPED ENVY_MAPPED_INIT
 
-/* A region of rows of 32 words. */
-typedef struct envy_rows {
-    uint64_t (*at)[32];
-    size_t len;
-} envy_rows;
-
-/* The sizes of the regions that a setup asks for. */
-typedef struct envy_sizes {
-    uint64_t rows;   /* of flash, 256 bytes each */
-    uint64_t words;  /* of SRAM, 8 bytes each */
-    uint64_t erases; /* counts of erases, 8 bytes each */
-} envy_sizes;
-
 /* Writes the sizes that a setup asks for. ENVY_DONE, ENVY_POLICY or an ENVY_SETUP_*. */
 uint32_t envy_mapped_sizes(const envy_setup *setup, envy_sizes *sizes);
 

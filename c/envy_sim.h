@@ -27,6 +27,7 @@
 #define ENVY_SIM_H
 
 #include "envy_codes.h"
+#include "envy_shown.h"
 
 #ifdef __cplusplus
 extern "C" {
@@ -43,39 +44,6 @@ typedef struct envy_bytes {
     uint8_t *at;
     size_t len;
 } envy_bytes;
-
-/* What a row of flash is. */
-enum envy_row_kind {
-    ENVY_ROW_FREE = 0,   /* not claimed since its segment was erased */
-    ENVY_ROW_KEPT = 1,   /* loads of its page read it */
-    ENVY_ROW_SHADOW = 2, /* a transaction owns its page, whose earlier words are here */
-    ENVY_ROW_DEAD = 3    /* claimed, and no page names it */
-};
-typedef struct envy_row {
-    uint32_t kind; /* an envy_row_kind */
-    uint32_t page; /* of a row that is kept or a shadow; else 0 */
-    uint32_t slot; /* of a shadow, the slot whose transaction owns the page; else 0 */
-} envy_row;
-
-/* Where a page is. */
-typedef struct envy_page {
-    uint32_t place;  /* 0: absent, which is zeros; 1: in a row; 2: in a frame */
-    uint32_t at;     /* the row or the frame */
-    uint32_t undo;   /* 0: no transaction owns it; what it goes back to is 1: zeros, or 2: a shadow */
-    uint32_t slot;   /* the slot whose transaction owns it */
-    uint32_t shadow; /* the row of the shadow */
-} envy_page;
-
-typedef struct envy_segment {
-    uint64_t wear; /* how often it was erased */
-    uint32_t fill; /* how many of its rows were claimed since */
-} envy_segment;
-
-/* The cleaner's job. */
-typedef struct envy_job {
-    uint32_t kind;    /* 0: none, 1: kept rows are copied to the spare, 2: references go to the copies, 3: the spare is erased */
-    uint32_t segment; /* whose kept rows, or references; else 0 */
-} envy_job;
 
 /* Makes a place that holds no memory. ENVY_DONE or ENVY_NO_MEMORY. The place, a few hundred bytes, stays until the
    process ends, and serves for any number of memories, one after another. */

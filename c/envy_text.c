@@ -79,6 +79,7 @@ const char *envy_error_text(uint32_t code) {
     case ENVY_OTHER_JOURNAL: return "the file is a journal of another version";
     case ENVY_DAMAGED: return "the journal is damaged";
     case ENVY_APPENDED: return "synced, but not compacted: no second file could be written";
+    case ENVY_OTHER_BOARD: return "what the memory stands over can't do this";
     case ENVY_SYSTEM: return "the system refused a call";
     case ENVY_LOCKED: return "another process has the file open";
     case ENVY_TOO_MANY: return "too many files are open";

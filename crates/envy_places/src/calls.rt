@@ -1,5 +1,6 @@
 // The calls of a memory, whatever it stands over.
 ghost use Rattle.envy_calls.specs.Answers.{DoesLoad, DoesLook, DoesStore, DoesBegin, DoesPut, DoesCommit, DoesAbort, DoesTick, DoesCount};
+ghost use Rattle.envy_calls.specs.Reserves.{DoesWear};
 ghost use Rattle.envy_places.specs.Places.{AreAlike, held};
 
 use crate::each::on_each;
@@ -101,4 +102,15 @@ pub fn counts<R: Board, F: Board, S: Board>(
     ensures { DoesCount (held place.now) result found.old found.new }
 {
     on_each!(place, slot => envy_calls::counts(slot, found))
+}
+
+/// How many segments in reserve are retired, and how many are left: none exactly if the next bad erase of the spare is told.
+pub fn worn<R: Board, F: Board, S: Board>(
+    place: &MemoryPlace<R, F, S>,
+    retired: &mut u32,
+    left: &mut u32,
+) -> u32
+    ensures { DoesWear (held place.now) retired.old left.old result retired.new left.new }
+{
+    on_each!(place, slot => envy_calls::worn(slot, retired, left))
 }

@@ -17,7 +17,7 @@ mod place;
 mod syncing;
 
 pub use bulk::{read, store_run, view, write};
-pub use calls::{abort, begin, commit, counts, load, look, put, store, tick};
+pub use calls::{abort, begin, commit, counts, load, look, put, store, tick, worn};
 pub use code::PlaceCode;
 pub use failing::{arm_bad, arm_cut, cut_now, lives, refusal, revive};
 pub use index_calls::{

@@ -1,0 +1,4 @@
+pub mod Begun
+pub mod Filling
+pub mod Opened
+pub mod Saved
