@@ -184,14 +184,14 @@ static void over_a_simulation(envy *m) {
 int main(int count, char **words) {
     char path[4096];
     if (count != 2) return 2;
-    snprintf(path, sizeof path, "%s/one", words[1]);
+    snprintf(path, sizeof path, "%s/one.kept", words[1]);
     envy none = ENVY_INIT, m = ENVY_INIT;
     uint64_t word;
     is("a handle without a place", envy_load(&none, 5, &word), ENVY_EMPTY);
     is("its sync", envy_sync(&none), ENVY_EMPTY);
     is("its end", envy_close(&none), ENVY_DONE);
     over_a_file(&m, path);
-    snprintf(path, sizeof path, "%s/mapped", words[1]);
+    snprintf(path, sizeof path, "%s/one.mapped", words[1]);
     over_a_mapped_file(&m, path);
     over_regions(&m);
     over_a_simulation(&m);
