@@ -17,7 +17,7 @@ pub was_on : (k : ℕ) (a b : Sheet) → Works k a b → IsTrue b.on → IsTrue 
 was_on k a b w on = elim (on_or_off a.on) [ inl y ↦ y | inr n ↦ no_both b.on on (w.dark n) ]
 
 pub Works-refl : (s : Sheet) → Works 0 s s
-Works-refl s = record { long = refl; kept = refl; room = refl; fixed = refl; cuts = omega arith; bads = omega arith; dark = λ e. e; cut = λ t f. no_both s.on t f; still = λ _. refl; few = λ _. omega arith; seen = λ _ p h. h; beside = inl refl; kept_beside = refl }
+Works-refl s = record { long = refl; kept = refl; room = refl; fixed = refl; notes = refl; cuts = omega arith; bads = omega arith; dark = λ e. e; cut = λ t f. no_both s.on t f; still = λ _. refl; few = λ _. omega arith; seen = λ _ p h. h; beside = inl refl; kept_beside = refl }
 
 rose-low : (a b c : ℕ) → Rose a b → b ≤ c → Rose a c
 rose-low a b c r le lt = let h = r lt in omega arith
@@ -28,6 +28,7 @@ Works-trans j k a b c v w = record {
   kept = w.kept ∙ v.kept;
   room = w.room ∙ v.room;
   fixed = w.fixed ∙ v.fixed;
+  notes = w.notes ∙ v.notes;
   cuts = omega (arith, v.cuts, w.cuts);
   bads = omega (arith, v.bads, w.bads);
   dark = λ e. w.dark (v.dark e);
@@ -49,7 +50,7 @@ Works-trans j k a b c v w = record {
 
 -- another count of pages
 pub Works-few : (j k : ℕ) (a b : Sheet) → Works j a b → (IsTrue b.on → length b.pages ≤ length a.pages + k) → Works k a b
-Works-few j k a b w few = record { long = w.long; kept = w.kept; room = w.room; fixed = w.fixed; cuts = w.cuts; bads = w.bads; dark = w.dark; cut = w.cut; still = w.still; few = few; seen = w.seen; beside = w.beside; kept_beside = w.kept_beside }
+Works-few j k a b w few = record { long = w.long; kept = w.kept; room = w.room; fixed = w.fixed; notes = w.notes; cuts = w.cuts; bads = w.bads; dark = w.dark; cut = w.cut; still = w.still; few = few; seen = w.seen; beside = w.beside; kept_beside = w.kept_beside }
 
 pub Works-more : (j k : ℕ) (a b : Sheet) → j ≤ k → Works j a b → Works k a b
 Works-more j k a b le w = Works-few j k a b w (λ on. omega (arith, w.few on))

@@ -1,6 +1,7 @@
 -- What a memory of words with one transaction is, and what each of its calls does.
 use Rattle.std.specs.Prelude.{◌≡◌, ◌⊎◌, ℕ, ◌+◌, ◌-◌, ◌*◌, ◌/◌, ◌^◌, ◌<◌, ◌≤◌, ◌==◌, Bool, false, IsTrue, List, [], length, slice_set, slice_index, Result, Ok, Err}
 use Rattle.std.specs.List.{list_any}
+use Rattle.envy_base.specs.State.{Notes}
 use Rattle.envy_base.specs.declared.board.Off.{Off}
 use Rattle.envy_base.specs.declared.board.Trouble.{Trouble}
 use Rattle.envy_base.specs.declared.board.Trouble.TheVariants.{Off as TroubleOff, Bad}
@@ -28,6 +29,8 @@ pub record Sheet : Type 0 where
   pub price : Work
   -- further numbers of the memory, which no call of the trait changes
   pub fixed : List ℕ
+  -- what the memory's owner notes, which none changes either
+  pub notes : Notes
   -- words beside these, if this memory is a part of another one, and what is kept of them
   pub beside : List ℕ
   pub kept_beside : List ℕ
@@ -61,6 +64,7 @@ pub record Works (k : ℕ) (old new : Sheet) : Type 0 where
   pub kept : new.kept ≡ old.kept
   pub room : new.room ≡ old.room
   pub fixed : new.fixed ≡ old.fixed
+  pub notes : new.notes ≡ old.notes
   pub cuts : old.cuts ≤ new.cuts
   pub bads : old.bads ≤ new.bads
   pub dark : old.on ≡ false → new.on ≡ false
@@ -91,6 +95,7 @@ pub record Keeps (old new : Sheet) : Type 0 where
   pub long : length new.words ≡ length old.words
   pub room : new.room ≡ old.room
   pub fixed : new.fixed ≡ old.fixed
+  pub notes : new.notes ≡ old.notes
   pub cuts : old.cuts ≤ new.cuts
   pub bads : old.bads ≤ new.bads
   pub dark : old.on ≡ false → new.on ≡ false

@@ -5,7 +5,7 @@ use Rattle.std.proofs.lemmas.Bool.{false≢true}
 use Rattle.envy_audit.specs.Judging.{BreaksFirst}
 use Rattle.envy_audit.proofs.Sounding.{sound-points}
 use Rattle.envy_base.specs.Shape.{version_of}
-use Rattle.envy_base.specs.State.{IsBoard, State}
+use Rattle.envy_base.specs.State.{Notes, IsBoard, State}
 use Rattle.envy_base.proofs.Versions.{version-known}
 use Rattle.envy_base.specs.declared.shape.Shape.{Shape}
 use Rattle.envy_base.proofs.Undoing.{undo_all-closed}
@@ -20,7 +20,7 @@ use Rattle.envy_begun.proofs.Opening.{IsGood, opens-as}
 use Rattle.envy_calls.specs.Making.{Forbids, IsWhole}
 use Rattle.envy_calls.specs.declared.code.Code.{Code}
 use Rattle.envy_calls.specs.declared.code.Code.TheVariants.{NoMemory, Unformatted, Older, OtherShape, Setup as OfSetup, Broken}
-use Rattle.envy_disk.specs.Disk.{with_disk}
+use Rattle.envy_disk.specs.Disk.{with_notes}
 use Rattle.envy_journal.specs.Content.{Content, HasMisfit, content_of, holds}
 use Rattle.envy_journal.specs.Head.{head_bytes}
 use Rattle.envy_journal.specs.Journal.{journal_state}
@@ -48,20 +48,12 @@ use Rattle.envy_policy.specs.Setup.{checked}
 use Rattle.envy_policy.specs.declared.setup.Setup.{Setup}
 
 -- a memory over a board that was compacted
-pub still-compact : (was now : Chart) → now.shape ≡ was.shape → now.given ≡ was.given → IsCompact was → IsCompact now
-still-compact was now shape given is = record {
-  hindrances = is.hindrances;
-  bytes = is.bytes;
-  coded = given ∙ is.coded;
-  short = subst (λ (x : Shape). length is.bytes ≤ most_of x) (sym shape) is.short;
-}
+pub still-compact : (was now : Chart) → now.shape ≡ was.shape → now.notes ≡ was.notes → IsCompact was → IsCompact now
+still-compact was now shape notes is = subst (λ (n : Notes). length n.last.bytes ≤ most_of now.shape) (sym notes) (subst (λ (x : Shape). length was.notes.last.bytes ≤ most_of x) (sym shape) is)
 
 -- and over one that wasn't
-pub still-same : (file : List ℕ) (was now : Chart) → now.given ≡ was.given → HasOperationsOf file was → HasOperationsOf file now
-still-same file was now given has = record { hindrances = has.hindrances; bytes = has.bytes; coded = given ∙ has.coded; same = has.same }
-
-pub has-operations : (file : List ℕ) (c : Chart) (synced : IsSynced c) → operations synced.bytes ≡ operations file → HasOperationsOf file c
-has-operations file c synced same = record { hindrances = synced.hindrances; bytes = synced.bytes; coded = synced.coded; same = same }
+pub still-same : (file : List ℕ) (was now : Chart) → now.notes ≡ was.notes → HasOperationsOf file was → HasOperationsOf file now
+still-same file was now notes has = ap (λ (n : Notes). operations n.last.bytes) notes ∙ has
 
 -- no shape has version 1
 never-first : (sh : Shape) → version_of sh ≡ 1 → ⊥
@@ -86,7 +78,7 @@ module _ (sh : Shape) (file : List ℕ) (s : State) (o : IsOpened sh file s) whe
       record {
         was = chart s;
         synced = synced;
-        last = record { shape = sym kept.shape; moment = kept.counted.plans; bytes = kept.counted.given };
+        last = record { shape = sym kept.shape; sync = ap (λ (n : Notes). n.last) kept.counted.notes };
         comes = (reopens, Attaches.taken a);
       }
 
@@ -106,7 +98,7 @@ module _ (sh : Shape) (file : List ℕ) (s : State) (o : IsOpened sh file s) whe
           record {
             was = chart s;
             synced = synced;
-            last = record { shape = sym kept.shape; moment = kept.counted.plans; bytes = kept.counted.given };
+            last = record { shape = sym kept.shape; sync = ap (λ (n : Notes). n.last) kept.counted.notes };
             magic = IsWhole.magic whole;
             version = IsGood.version good;
             sound = IsWhole.sound whole;
@@ -200,9 +192,9 @@ pub off-attach : (fault : AttachFault) (old new : State) (setup : Setup) → fau
 off-attach fault old new setup is d = (subst (λ (x : AttachFault). AttachDeclines old setup x new) is d).0
 
 -- the state of a board that was opened
-pub opened-state : (b : State) (dead : Bool) (plans given pulled lives : ℕ) (sh : Shape) (file : List ℕ) → dead ≡ false → IsOpened sh file b → IsOpened sh file (with_disk (journal_state dead b) plans given pulled lives)
-opened-state b true plans given pulled lives sh file is o = absurd (false≢true (sym is))
-opened-state b false plans given pulled lives sh file is o = record { head = o.head; shape = o.shape; content = o.content; ends = o.ends }
+pub opened-state : (b : State) (dead : Bool) (notes : Notes) (sh : Shape) (file : List ℕ) → dead ≡ false → IsOpened sh file b → IsOpened sh file (with_notes (journal_state dead b) notes)
+opened-state b true notes sh file is o = absurd (false≢true (sym is))
+opened-state b false notes sh file is o = record { head = o.head; shape = o.shape; content = o.content; ends = o.ends }
 
 -- why a journal isn't taken up
 module _ {M D : Type 0} (seen : D → List ℕ) (has_failed : D → Bool) (Reason : Type 0) (file : List ℕ) (old : D) where

@@ -2,7 +2,7 @@
 use Rattle.std.proofs.Common.{◌≡◌, ◌⊎◌, ◌∙◌, ◌≤◌, inl, inr, ⊎_elim, ℕ, Bool, List, false, Err, Ok, refl, sym, ap, subst, arith}
 use Rattle.std.specs.Prelude.{IfErr, Result}
 use Rattle.std.proofs.Math.Logic.{∥∥₁_map}
-use Rattle.envy_base.specs.State.{State}
+use Rattle.envy_base.specs.State.{Notes, SyncNote, State}
 use Rattle.envy_base.specs.declared.board.Off.{Off}
 use Rattle.envy_base.specs.declared.shape.Shape.{Shape}
 use Rattle.envy_begun.specs.Left.{KeepsWords, Leaves, OpensAlike, Stays, StaysWritten}
@@ -106,12 +106,12 @@ module _ (T : Type 0) (s t : State) (off : Off) where
   fails-opened sh was (inr (on, is)) o = subst (λ (x : State). IsOpened sh was x) (sym is) (record { head = o.head; shape = o.shape; content = o.content; ends = o.ends })
 
   pub fails-last : Syncs {T = T} s (Err off) t → IsLast (chart s) (chart t)
-  fails-last (inl (dark, is)) = subst (λ (x : State). IsLast (chart s) (chart x)) (sym is) (record { shape = refl; moment = refl; bytes = refl })
-  fails-last (inr (on, is)) = subst (λ (x : State). IsLast (chart s) (chart x)) (sym is) (record { shape = refl; moment = refl; bytes = refl })
+  fails-last (inl (dark, is)) = subst (λ (x : State). IsLast (chart s) (chart x)) (sym is) (record { shape = refl; sync = refl })
+  fails-last (inr (on, is)) = subst (λ (x : State). IsLast (chart s) (chart x)) (sym is) (record { shape = refl; sync = refl })
 
 -- and one that succeeded too
 pub synced-opened : {T : Type 0} (s t : State) (made : T) (sh : Shape) (was : List ℕ) → Syncs {T = T} s (Ok made) t → IsOpened sh was s → IsOpened sh was t
-synced-opened s t made sh was (on, plans, given, is) o = subst (λ (x : State). IsOpened sh was x) (sym is) (record { head = o.head; shape = o.shape; content = o.content; ends = o.ends })
+synced-opened s t made sh was (on, sync, is) o = subst (λ (x : State). IsOpened sh was x) (sym is) (record { head = o.head; shape = o.shape; content = o.content; ends = o.ends })
 
 -- the words that the file that was there opens as are found on a board that a restart began to take up
 kept-words : (sh : Shape) (was : List ℕ) (s t : State) → IsOpened sh was s → Kept (chart s) (chart t) → (file : List ℕ) → Reopens (chart t) file → KeepsWords sh was file
@@ -127,12 +127,12 @@ kept-words sh was s t o kept file r words opens =
     }
 
 module _ {D : Type 0} (left_since : D → ℕ → List ℕ → Type 0) (moment : D → ℕ) (sh : Shape) (was : List ℕ) (device : D) (s t : State) (o : IsOpened sh was s) (synced : IsSynced (chart s))
-    (last : (c : Chart) → IsSynced c → IsLast c (chart t) → (file : List ℕ) → left_since device c.plans file → ∥ Reopens c file ⊎ ((t.on ≡ false) × Reopens (chart t) file) ∥₁) (time : t.plans ≤ moment device) where
+    (last : (c : Chart) → IsSynced c → IsLast c (chart t) → (file : List ℕ) → left_since device c.notes.last.moment file → ∥ Reopens c file ⊎ ((t.on ≡ false) × Reopens (chart t) file) ∥₁) (time : t.notes.last.moment ≤ moment device) where
   -- a journal that was opened and closed again
   leaves-such : (Such : List ℕ → Type 0) → IsLast (chart s) (chart t) → ((file : List ℕ) → OpensAlike sh was file → Such file) → ((file : List ℕ) → Reopens (chart t) file → Such file) → Leaves left_since moment device Such
   leaves-such Such l alike now = record {
-    since = s.plans;
-    before = (let same : t.plans ≡ s.plans = l.moment in omega (arith, time, same));
+    since = s.notes.last.moment;
+    before = (let same : t.notes.last.moment ≡ s.notes.last.moment = ap (λ (y : SyncNote). y.moment) l.sync in omega (arith, time, same));
     each = λ file left. ∥∥₁_map (last (chart s) synced l file left) (λ e. either file e);
   }
     where
@@ -146,11 +146,11 @@ module _ {D : Type 0} (left_since : D → ℕ → List ℕ → Type 0) (moment :
   -- power failed while a memory was attached
   pub off-leaves : (setup : OfSetup) (held : ℕ) → AttachDeclines s setup AttachOff t → Leaves left_since moment device (StaysWritten (Failed held) sh was)
   off-leaves setup held (off, inl (dark, is)) =
-      leaves-such (StaysWritten (Failed held) sh was) (subst (λ (x : State). IsLast (chart s) (chart x)) (sym is) (record { shape = refl; moment = refl; bytes = refl }))
+      leaves-such (StaysWritten (Failed held) sh was) (subst (λ (x : State). IsLast (chart s) (chart x)) (sym is) (record { shape = refl; sync = refl }))
       (λ file alike. inl alike) (λ file r. inl (reopens-alike sh was s o file (subst (λ (x : State). Reopens (chart x) file) is r)))
   off-leaves setup held (off, inr (may, kept, cuts)) =
       let counted : Counted 0 0 (chart s) (chart t) = kept.counted in
-      leaves-such (StaysWritten (Failed held) sh was) (record { shape = sym kept.shape; moment = counted.plans; bytes = counted.given })
+      leaves-such (StaysWritten (Failed held) sh was) (record { shape = sym kept.shape; sync = ap (λ (n : Notes). n.last) counted.notes })
       (λ file alike. inl alike) (λ file r. inr (kept-words sh was s t o kept file r))
 
   -- a memory wasn't attached, by the fault
@@ -162,7 +162,7 @@ module _ {D : Type 0} (left_since : D → ℕ → List ℕ → Type 0) (moment :
       lit stopped on =
           let same = attach-same fault s t setup on d in
           leaves-as left_since moment device (OpensAlike sh was) (StaysWritten unbegun sh was) (alike-stays seen has_failed new sh was unbegun stopped)
-          (leaves-alike (subst (λ (x : State). IsOpened sh was x) (sym same) o) (subst (λ (x : State). IsLast (chart s) (chart x)) (sym same) (record { shape = refl; moment = refl; bytes = refl })))
+          (leaves-alike (subst (λ (x : State). IsOpened sh was x) (sym same) o) (subst (λ (x : State). IsLast (chart s) (chart x)) (sym same) (record { shape = refl; sync = refl })))
 
       go : SaysAttach seen has_failed device new unbegun fault held → Leaves left_since moment device (StaysWritten unbegun sh was)
       go (inl (off, why, goes)) = subst (λ (u : Unbegun). Leaves left_since moment device (StaysWritten u sh was)) (sym why) (off-leaves setup held (subst (λ (x : AttachFault). AttachDeclines s setup x t) off d))

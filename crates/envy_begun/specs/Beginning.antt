@@ -7,7 +7,6 @@ use Rattle.envy_begun.specs.declared.unbegun.Unbegun.TheVariants.{Failed, Memory
 use Rattle.envy_journal.specs.Held.{most_held}
 use Rattle.envy_journal.specs.Reading.{operations}
 use Rattle.envy_synced.specs.Disk.{IsLast, IsSynced}
-use Rattle.envy_synced.specs.Number.{number}
 use Rattle.envy_layout.specs.Sound.{IsSound}
 use Rattle.envy_layout.specs.Stands.{Stands}
 use Rattle.envy_layout.specs.Words.{durable}
@@ -31,12 +30,9 @@ pub record HasBegun (setup : Setup) (array : Array) (p : Picture) : Type 0 where
   pub begins : IsStarted setup p
   pub shape : p.chart.shape ≡ setup.shape
 
--- the journal that a board's numbers tell is on the disk has the operations of a file, each as it was
-pub record HasOperationsOf (file : List ℕ) (c : Chart) : Type 0 where
-  pub hindrances : ℕ
-  pub bytes : List ℕ
-  pub coded : c.given ≡ number (hindrances ∷ bytes)
-  pub same : operations bytes ≡ operations file
+-- the journal that the last sync brought to the disk has the operations of a file, each as it was
+abbrev pub HasOperationsOf : List ℕ → Chart → Type 0
+HasOperationsOf file c = operations c.notes.last.bytes ≡ operations file
 
 -- the file failed, or with so many bytes held back from it, and no more than a log holds, is at the end of its range
 abbrev pub HasStopped : {D : Type 0} → (D → List ℕ) → (D → Bool) → ℕ → D → Type 0

@@ -64,8 +64,8 @@ abbrev pub ComesFrom : Holding → List ℕ → Chart → Chart → Type 0
 ComesFrom Written file was board = Reopens was file × IsTakenUp was board
 ComesFrom other file was board = (was ≡ board) × IsFresh board
 
--- The board with which a memory in a file begins. What its numbers tell is on the disk is the board that the operations of
--- the file make: its sizes, its map and its flash. That board was taken up: the transactions that were open were undone, then
+-- The board with which a memory in a file begins. What its last sync brought to the disk is the board that the operations
+-- of the file make: its sizes, its map and its flash. That board was taken up: the transactions that were open were undone, then
 -- the job was settled, and flash is as it was. Where nothing was done in the file the board is a fresh one, and on the disk.
 pub record BeginsOn (holding : Holding) (file : List ℕ) (board : Chart) : Type 0 where
   pub was : Chart

@@ -30,17 +30,17 @@ pub(crate) fn closed<B: Steady + Drop, D: Device>(kept: Kept<B, D>) -> (D, usize
     ensures stopped { (⟦<Kept<B, D> as envy_base::Board>⟧.state kept).on ≡ false
         → HasStopped D.seen D.has_failed result.1 result.0 }
     ensures last { (was : Chart) → IsSynced was → IsLast was (chart (⟦<Kept<B, D> as envy_base::Board>⟧.state kept))
-        → (file : List ℕ) → D.left_since result.0 was.plans file
+        → (file : List ℕ) → D.left_since result.0 was.notes.last.moment file
         → ∥ Reopens was file
         ⊎ (((⟦<Kept<B, D> as envy_base::Board>⟧.state kept).on ≡ false)
         × Reopens (chart (⟦<Kept<B, D> as envy_base::Board>⟧.state kept)) file) ∥₁ }
-    ensures reads { (was : Chart) (synced : IsSynced was)
+    ensures reads { (was : Chart) → IsSynced was
         → IsLast was (chart (⟦<Kept<B, D> as envy_base::Board>⟧.state kept))
-        → (file : List ℕ) → D.left_since result.0 was.plans file
-        → ∥ StandsFor was.shape (operations synced.bytes) file
+        → (file : List ℕ) → D.left_since result.0 was.notes.last.moment file
+        → ∥ StandsFor was.shape (operations was.notes.last.bytes) file
         ⊎ (((⟦<Kept<B, D> as envy_base::Board>⟧.state kept).on ≡ false)
         × Reopens (chart (⟦<Kept<B, D> as envy_base::Board>⟧.state kept)) file) ∥₁ }
-    ensures time { (⟦<Kept<B, D> as envy_base::Board>⟧.state kept).plans ≤ D.moment result.0 }
+    ensures time { (⟦<Kept<B, D> as envy_base::Board>⟧.state kept).notes.last.moment ≤ D.moment result.0 }
 {
     let _device = kept.device();
     let journal = kept.into_journal();
@@ -61,8 +61,8 @@ fn sync_first<B: Steady + Drop, D: Place>(
     ensures fresh { IfOk result (λ memory. IsSynced memory.chart × IsFresh memory.chart) }
     ensures failed { IfErr result (λ e. IsStopped D.seen D.has_failed e.0 e.1) }
     // where nothing was done in the journal before
-    ensures left { (was : Chart) (synced : IsSynced was) (file : List ℕ) → IsLast was memory.chart
-        → operations synced.bytes ≡ []
+    ensures left { (was : Chart) → IsSynced was → (file : List ℕ) → IsLast was memory.chart
+        → operations was.notes.last.bytes ≡ []
         → IfErr result (λ e. Leaves D.left_since D.moment e.1 (StaysNew e.0 _setup.shape file)) }
 {
     match memory.sync() {
@@ -85,8 +85,8 @@ pub(crate) fn make_memory<B: Steady + Drop, D: Place>(
     ensures fresh { IfOk result (λ memory. IsSynced memory.chart × IsFresh memory.chart) }
     ensures failed { IfErr result (λ e. IsStopped D.seen D.has_failed e.0 e.1) }
     // where nothing was done in the journal before
-    ensures left { (synced : IsSynced (chart (⟦<Kept<B, D> as envy_base::Board>⟧.state kept))) (file : List ℕ)
-        → operations synced.bytes ≡ []
+    ensures left { IsSynced (chart (⟦<Kept<B, D> as envy_base::Board>⟧.state kept)) → (file : List ℕ)
+        → operations (⟦<Kept<B, D> as envy_base::Board>⟧.state kept).notes.last.bytes ≡ []
         → IfErr result (λ e. Leaves D.left_since D.moment e.1 (StaysNew e.0 setup.shape file)) }
 {
     match Memory::format(alloc, kept, setup) {

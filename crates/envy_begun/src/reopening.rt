@@ -108,8 +108,8 @@ fn opened<B: Steady + Drop, D: Device + Drop>(
     ensures synced { IfOk result (λ kept. IsSynced (chart (⟦<Kept<B, D> as envy_base::Board>⟧.state kept))) }
     ensures opened { IfOk result (λ kept.
         IsOpened (B.state board).shape bytes.now (⟦<Kept<B, D> as envy_base::Board>⟧.state kept)) }
-    ensures reads { IfOk result (λ kept. (synced : IsSynced (chart (⟦<Kept<B, D> as envy_base::Board>⟧.state kept)))
-        × (operations synced.bytes ≡ operations bytes.now)) }
+    ensures reads { IfOk result (λ kept.
+        HasOperationsOf bytes.now (chart (⟦<Kept<B, D> as envy_base::Board>⟧.state kept))) }
     ensures left { IfErr result (λ e.
         Leaves D.left_since D.moment e.1 (StandsFor (B.state board).shape (operations bytes.now))) }
     ensures failed { IfErr result (λ e. IsStopped D.seen D.has_failed e.0 e.1) }

@@ -14,27 +14,28 @@ pub enum Compaction {
     Appended,
 }
 
-/// A board that can be brought to a disk. Four numbers that no call of a memory changes (the cuts by hand, the plans, and
-/// the returns of power that are left and were given) tell what its last syncs brought there.
+/// A board that can be brought to a disk. Its notes, which no call of a memory changes, tell what its last two syncs brought
+/// there.
 pub trait OnDisk: Board {
-    /// What the numbers tell is on the disk is what the board holds.
+    /// What the last sync brought to the disk is what the board holds.
     ghost is_synced: { Chart → Type 0 };
 
     /// It takes no more there than what the board holds takes, however much was done to it.
     ghost is_compact: { Chart → Type 0 };
 
-    /// What the numbers tell: a compaction of it has been hindered.
-    ghost is_hindered: { Chart → Type 0 };
+    /// What hinders a compaction happened between the last sync of the first board and that of the second.
+    ghost is_hindered: { Chart → Chart → Type 0 };
 
     /// Brings the board to the disk. If it fails, power is off.
     fn sync(&mut self) -> Result<(), Off>
         ensures answer { Syncs (Self.state self.old) result (Self.state self.new) }
         ensures synced { OnOk result (is_synced (chart (Self.state self.new))) };
 
-    /// A sync that leaves no more on the disk than what the board holds takes, unless that was hindered.
+    /// A sync that leaves no more on the disk than what the board holds takes, unless that was hindered since the last one.
     fn compact(&mut self) -> Result<Compaction, Off>
         ensures answer { Syncs (Self.state self.old) result (Self.state self.new) }
         ensures synced { OnOk result (is_synced (chart (Self.state self.new))) }
         ensures compact { IfOk result (λ made. made ≡ Done → is_compact (chart (Self.state self.new))) }
-        ensures hindered { IfOk result (λ made. made ≡ Appended → is_hindered (chart (Self.state self.new))) };
+        ensures hindered { IfOk result (λ made. made ≡ Appended
+            → is_hindered (chart (Self.state self.old)) (chart (Self.state self.new))) };
 }

@@ -69,7 +69,7 @@ viewed range first count k old mid law then r w =
     record {
       stays = same;
       kept = whole range.first range.words mid.kept old.kept (omega (arith, r.fits, long, then.long)) (omega (arith, r.fits, law.long)) inner (Stays.kept same);
-      steady = record { fixed = ap (λ (ns : List ℕ). drop 3 ns) w.fixed; cuts = w.cuts; bads = w.bads; cut = w.cut };
+      steady = record { fixed = ap (λ (ns : List ℕ). drop 3 ns) w.fixed; notes = w.notes; cuts = w.cuts; bads = w.bads; cut = w.cut };
     }
 
 -- the same view, by its own words
@@ -183,15 +183,16 @@ settled-removal range key es left old mid new fault Bad s st e =
 -- ---- in a row
 
 pub steady-refl : (s : Sheet) → Steady s s
-steady-refl s = record { fixed = refl; cuts = omega arith; bads = omega arith; cut = λ on dark. absurd (let clash : true ≡ false = sym on ∙ dark in cc) }
+steady-refl s = record { fixed = refl; notes = refl; cuts = omega arith; bads = omega arith; cut = λ on dark. absurd (let clash : true ≡ false = sym on ∙ dark in cc) }
 
 pub steady-keeps : (old new : Sheet) → Keeps old new → Steady old new
-steady-keeps old new k = record { fixed = k.fixed; cuts = k.cuts; bads = k.bads; cut = k.cut }
+steady-keeps old new k = record { fixed = k.fixed; notes = k.notes; cuts = k.cuts; bads = k.bads; cut = k.cut }
 
 -- power failed in the first part or in the second
 pub steady-trans : (a b c : Sheet) → Steady a b → Steady b c → Steady a c
 steady-trans a b c s t = record {
   fixed = t.fixed ∙ s.fixed;
+  notes = t.notes ∙ s.notes;
   cuts = omega (arith, s.cuts, t.cuts);
   bads = omega (arith, s.bads, t.bads);
   cut = λ on dark lt. at b.on refl on dark lt;

@@ -37,7 +37,7 @@ pub called : (puts : ℕ) (Left : Picture → Picture → Code → Type 0) (whos
 called puts Left whose range old new p q b code g is works left = subst (λ (o : Option Picture). Calls puts Left o new (number_of code)) (sym g.is) (q, code, is, refl, works, left)
 
 pub steady-back : (puts : ℕ) (p q : Picture) (b d : Bool) → Steady (sheet_of p b) (sheet_of q d) → Spends puts (sheet_of p b) (sheet_of q d) → Works puts p q
-steady-back puts p q b d s spends = fixed-works puts p q b d s.fixed s.cuts s.bads s.cut spends
+steady-back puts p q b d s spends = fixed-works puts p q b d s.fixed s.notes s.cuts s.bads s.cut spends
 
 -- the words of a range, before and after
 pub in-range : (range : EnvyMap) (b : Bool) (p : Picture) → (sheet_of p b).words ≡ live p.chart → (view_of range (sheet_of p b)).words ≡ words_in range p
@@ -151,7 +151,7 @@ drop-stays (Err fault) code before after tells other = tells.1
 -- ---- transactions
 
 pub keeps-steady : (puts : ℕ) (p q : Picture) (b d : Bool) → SheetKeeps (sheet_of p b) (sheet_of q d) → Spends puts (sheet_of p b) (sheet_of q d) → Works puts p q
-keeps-steady puts p q b d k spends = fixed-works puts p q b d k.fixed k.cuts k.bads k.cut spends
+keeps-steady puts p q b d k spends = fixed-works puts p q b d k.fixed k.notes k.cuts k.bads k.cut spends
 
 nothing-in : {A B : Type 0} (f : A → B) (xs : List A) → map f xs ≡ [] → xs ≡ []
 nothing-in f [] is = refl

@@ -15,6 +15,7 @@ view_of range s = within range.first range.words s
 -- what every call keeps
 pub record Steady (old new : Sheet) : Type 0 where
   pub fixed : new.fixed ≡ old.fixed
+  pub notes : new.notes ≡ old.notes
   pub cuts : old.cuts ≤ new.cuts
   pub bads : old.bads ≤ new.bads
   pub cut : IsTrue old.on → new.on ≡ false → Rose old.cuts new.cuts

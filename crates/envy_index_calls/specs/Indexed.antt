@@ -79,17 +79,14 @@ Declines p MapSetup = (p.chart.shape.pages < 20) ⊎ (MOST_MAP_PAGES < p.chart.s
 Declines p SlotOpen = HasOpenFrom 0 p.chart true × (20 ≤ p.chart.shape.pages) × (p.chart.shape.pages ≤ MOST_MAP_PAGES) × (32 ≤ p.chart.shape.shadows)
 Declines p code = ⊥
 
--- What every call does: sizes stay, and the numbers that a board over a file tells of its disk by; power that was on and is
+-- What every call does: sizes stay, and what the board's owner notes; power that was on and is
 -- off failed in the call. No more flash work began than so many puts may begin.
 pub record Works (puts : ℕ) (p q : Picture) : Type 0 where
   pub shape : q.chart.shape ≡ p.chart.shape
   pub cuts : p.chart.cuts ≤ q.chart.cuts
   pub bads : p.chart.bads ≤ q.chart.bads
   pub cut : IsTrue p.chart.on → q.chart.on ≡ false → Rose p.chart.cuts q.chart.cuts
-  pub pulled : q.chart.pulled ≡ p.chart.pulled
-  pub plans : q.chart.plans ≡ p.chart.plans
-  pub given : q.chart.given ≡ p.chart.given
-  pub lives : q.chart.lives ≡ p.chart.lives
+  pub notes : q.chart.notes ≡ p.chart.notes
   pub programs : q.chart.begun ≤ p.chart.begun + puts * flush_programs p.chart.shape.rows
   pub erases : sum q.chart.erases ≤ sum p.chart.erases + puts * flush_erases
 

@@ -31,6 +31,7 @@ impl<D: Device> Log<D> {
         ensures none { OnOk result (held_bytes D.seen self.new ≡ []) }
         ensures room { length self.new.buffer.items ≡ length self.old.buffer.items }
         ensures stays { StaysKept D.seen D.moment D.left_since D.synced self.old self.new }
+        ensures hindered { D.hindered self.new.device ≡ D.hindered self.old.device }
         ensures cause { HasCause D.seen D.has_failed false self.new result }
     {
         self.device.cut(self.gate + 1)?;
@@ -55,6 +56,7 @@ fn renew_segment<B: Steady, D: Device>(
     ensures remakes { OnOk result (Remakes D.seen D.may_leave D.left_since D.synced D.bytewise (B.state board.now)
         ((segment + 1) * (B.state board.now).shape.rows) 0 0 (5 * (segment + 1)) log.new) }
     ensures stays { StaysKept D.seen D.moment D.left_since D.synced log.old log.new }
+    ensures hindered { D.hindered log.new.device ≡ D.hindered log.old.device }
     ensures cause { HasCause D.seen D.has_failed false log.new result }
 {
     log.append(&Operation::Erase { segment })
@@ -66,6 +68,7 @@ fn renew_segments<B: Steady, D: Device>(board: &B, log: &mut Log<D>) -> Result<(
     ensures remakes { OnOk result (Remakes D.seen D.may_leave D.left_since D.synced D.bytewise (B.state board.now)
         (length (B.state board.now).flash) 0 0 (5 * (B.state board.now).shape.segments) log.new) }
     ensures stays { StaysKept D.seen D.moment D.left_since D.synced log.old log.new }
+    ensures hindered { D.hindered log.new.device ≡ D.hindered log.old.device }
     ensures cause { HasCause D.seen D.has_failed false log.new result }
 {
     for segment in 0..board.shape().segments {
@@ -83,6 +86,7 @@ fn renew_row<B: Steady, D: Device>(board: &B, log: &mut Log<D>, row: u32) -> Res
         (length (B.state board.now).flash) (row + 1) 0
         (5 * (B.state board.now).shape.segments + 261 * (row + 1)) log.new) }
     ensures stays { StaysKept D.seen D.moment D.left_since D.synced log.old log.new }
+    ensures hindered { D.hindered log.new.device ≡ D.hindered log.old.device }
     ensures cause { HasCause D.seen D.has_failed false log.new result }
 {
     let page = page_in(board, row);
@@ -100,6 +104,7 @@ fn renew_rows<B: Steady, D: Device>(board: &B, log: &mut Log<D>) -> Result<(), S
         (length (B.state board.now).flash) (length (B.state board.now).flash) 0
         (5 * (B.state board.now).shape.segments + 261 * length (B.state board.now).flash) log.new) }
     ensures stays { StaysKept D.seen D.moment D.left_since D.synced log.old log.new }
+    ensures hindered { D.hindered log.new.device ≡ D.hindered log.old.device }
     ensures cause { HasCause D.seen D.has_failed false log.new result }
 {
     let shape = board.shape();
@@ -119,6 +124,7 @@ fn renew_word<B: Steady, D: Device>(board: &B, log: &mut Log<D>, w: u32) -> Resu
         (length (B.state board.now).flash) (length (B.state board.now).flash) (w + 1)
         (5 * (B.state board.now).shape.segments + 261 * length (B.state board.now).flash + 13 * (w + 1)) log.new) }
     ensures stays { StaysKept D.seen D.moment D.left_since D.synced log.old log.new }
+    ensures hindered { D.hindered log.new.device ≡ D.hindered log.old.device }
     ensures cause { HasCause D.seen D.has_failed false log.new result }
 {
     let v = word_of(board, w);
@@ -134,6 +140,7 @@ fn renew_words<B: Steady, D: Device>(board: &B, log: &mut Log<D>) -> Result<(), 
         (length (B.state board.now).flash) (length (B.state board.now).flash) (length (B.state board.now).sram)
         (limit_of (B.state board.now).shape) log.new) }
     ensures stays { StaysKept D.seen D.moment D.left_since D.synced log.old log.new }
+    ensures hindered { D.hindered log.new.device ≡ D.hindered log.old.device }
     ensures cause { HasCause D.seen D.has_failed false log.new result }
 {
     for w in 0..words(&board.shape()) {
@@ -150,6 +157,7 @@ fn renew_board<B: Steady, D: Device>(board: &B, log: &mut Log<D>) -> Result<(), 
         (length (B.state board.now).flash) (length (B.state board.now).flash) (length (B.state board.now).sram)
         (limit_of (B.state board.now).shape) log.new) }
     ensures stays { StaysKept D.seen D.moment D.left_since D.synced log.old log.new }
+    ensures hindered { D.hindered log.new.device ≡ D.hindered log.old.device }
     ensures cause { HasCause D.seen D.has_failed false log.new result }
 {
     renew_rows(board, log)?;
@@ -163,6 +171,7 @@ fn renew<B: Steady, D: Device>(board: &B, log: &mut Log<D>) -> Result<(), SyncEr
     ensures counted { OnOk result (IsCounted D.seen D.may_leave D.bytewise log.new) }
     ensures short { OnOk result (length (held_bytes D.seen log.new) ≤ limit_of (B.state board.now).shape) }
     ensures stays { StaysKept D.seen D.moment D.left_since D.synced log.old log.new }
+    ensures hindered { D.hindered log.new.device ≡ D.hindered log.old.device }
     ensures cause { HasCause D.seen D.has_failed false log.new result }
 {
     renew_segments(board, log)?;
@@ -176,6 +185,7 @@ fn condensed<B: Steady, D: Device>(board: &B, log: &mut Log<D>) -> Result<(), Sy
     ensures counted { OnOk result (IsCounted D.seen D.may_leave D.bytewise log.new) }
     ensures short { OnOk result (length (held_bytes D.seen log.new) ≤ limit_of (B.state board.now).shape) }
     ensures stays { StaysKept D.seen D.moment D.left_since D.synced log.old log.new }
+    ensures hindered { D.hindered log.new.device ≡ D.hindered log.old.device }
     ensures cause { HasCause D.seen D.has_failed false log.new result }
 {
     log.forget()?;
@@ -210,6 +220,8 @@ impl<B: Steady, D: Device> Journaled<B, D> {
             (Runs D.seen D.moment D.left_since (B.state self.old.board).shape self.old.log self.new.log) }
         ensures dead { OnErr result (IsTrue self.new.dead) }
         ensures cause { HasCause D.seen D.has_failed self.old.dead self.new.log result }
+        // no call is made on a second file
+        ensures hindered { D.hindered self.new.log.device ≡ D.hindered self.old.log.device }
         // A crash at any moment of the call leaves the operations before the last sync.
         ensures any_moment { self.old.dead ≡ false
             → LeavesOnly D.moment D.left_since self.old.log.device self.new.log.device

@@ -1,7 +1,8 @@
 -- What answering a line of a kept memory's trace does, power being on at entry.
 use Rattle.std.specs.Prelude.{◌≡◌, ◌⊎◌, ◌↔◌, ℕ, false, List, [], ◌∷◌}
+use Rattle.envy_base.specs.State.{SyncNote}
 use Rattle.envy_base.specs.Array.{Array}
-use Rattle.envy_disk.specs.Disk.{with_numbers}
+use Rattle.envy_disk.specs.Disk.{with_sync}
 use Rattle.envy_synced.specs.Disk.{IsSynced}
 use Rattle.envy_layout.specs.Stands.{Stands}
 use Rattle.envy_map.specs.Fields.{failed}
@@ -32,7 +33,7 @@ pub record TraceAnswers (line : Line) (reply : Reply) (old new : Picture) : Type
 -- and power is off.
 abbrev pub SyncsTo : KeepReply → Picture → Picture → Type 0
 SyncsTo reply old new =
-    ((reply ≡ Synced) × IsSynced new.chart × (plans given : ℕ) × (new ≡ record old { chart = with_numbers old.chart plans given old.chart.plans old.chart.given }))
+    ((reply ≡ Synced) × IsSynced new.chart × (sync : SyncNote) × (new ≡ record old { chart = with_sync old.chart sync }))
     ⊎ ((reply ≡ TraceReply Lost) × (new ≡ record old { chart = failed old.chart }))
 
 abbrev pub AnswersKeep : KeepLine → KeepReply → Picture → Picture → Type 0

@@ -1,6 +1,7 @@
 -- What a kept memory does below the array, from line to line.
 use Rattle.std.specs.Prelude.{◌≡◌, ◌⊎◌, ℕ, IsTrue, List, [], ◌∷◌}
-use Rattle.envy_disk.specs.Disk.{with_numbers}
+use Rattle.envy_base.specs.State.{SyncNote}
+use Rattle.envy_disk.specs.Disk.{with_sync}
 use Rattle.envy_map.specs.Fields.{Chart, failed}
 use Rattle.envy_memory.specs.Picture.{IsMemory, Picture}
 use Rattle.envy_trace.specs.declared.line.Line.TheVariants.{Empty}
@@ -20,7 +21,7 @@ ShowsMemory p = IsTrue p.chart.on × IsMemory p.chart p.parts p.owned p.limit p.
 
 -- the board tells of one sync more, and nothing else changed
 abbrev pub IsTold : Picture → Picture → Type 0
-IsTold old new = (plans given : ℕ) × (new ≡ record old { chart = with_numbers old.chart plans given old.chart.plans old.chart.given })
+IsTold old new = (sync : SyncNote) × (new ≡ record old { chart = with_sync old.chart sync })
 
 -- One line with its replies, from one picture of the memory to the next. A line of the array does what that call of the
 -- memory says: a flush is by the policy's choice, a background step by the first rule that applies, by limit and mark. An

@@ -33,13 +33,13 @@ Grows-up xs e lt = record { long = length-set xs e _; each = λ s. at s (cases_e
     at s (inr other) = rw (get_or-set_other xs e s (up (get_or xs e 0)) 0 other) (omega arith)
 
 pub Counted-erased : (s : State) (e : ℕ) (rows : List (List ℕ)) → e < length s.erases → Counted 0 1 (chart s) (chart (with_segment s e rows))
-Counted-erased s e rows lt = record { power = inl (refl, refl); cuts = omega arith; bads = omega arith; begun = omega arith; few = omega arith; erases = Grows-up s.erases e lt; pulled = refl; plans = refl; last_plan = refl; lives = refl; given = refl }
+Counted-erased s e rows lt = record { power = inl (refl, refl); cuts = omega arith; bads = omega arith; begun = omega arith; few = omega arith; erases = Grows-up s.erases e lt; pulled = refl; plans = refl; last_plan = refl; lives = refl; given = refl; notes = refl }
 
 pub Counted-erase_cut : (s : State) (e : ℕ) (rows : List (List ℕ)) → IsTrue s.on → e < length s.erases → Counted 0 1 (chart s) (chart (cut (with_segment s e rows)))
-Counted-erase_cut s e rows on lt = record { power = inr (on, refl, refl); cuts = up-least s.cuts; bads = omega arith; begun = omega arith; few = omega arith; erases = Grows-up s.erases e lt; pulled = refl; plans = refl; last_plan = refl; lives = refl; given = refl }
+Counted-erase_cut s e rows on lt = record { power = inr (on, refl, refl); cuts = up-least s.cuts; bads = omega arith; begun = omega arith; few = omega arith; erases = Grows-up s.erases e lt; pulled = refl; plans = refl; last_plan = refl; lives = refl; given = refl; notes = refl }
 
 pub Counted-erase_bad : (s : State) (e : ℕ) (rows : List (List ℕ)) → e < length s.erases → Counted 0 1 (chart s) (chart (record (with_segment s e rows) { bads = up s.bads }))
-Counted-erase_bad s e rows lt = record { power = inl (refl, refl); cuts = omega arith; bads = up-least s.bads; begun = omega arith; few = omega arith; erases = Grows-up s.erases e lt; pulled = refl; plans = refl; last_plan = refl; lives = refl; given = refl }
+Counted-erase_bad s e rows lt = record { power = inl (refl, refl); cuts = omega arith; bads = up-least s.bads; begun = omega arith; few = omega arith; erases = Grows-up s.erases e lt; pulled = refl; plans = refl; last_plan = refl; lives = refl; given = refl; notes = refl }
 
 erased-bads : (is_bad : Bool) (n m : ℕ) → m ≡ (if is_bad then up n else n) → n ≤ m
 erased-bads true n m is = let a = up-least n in omega arith
@@ -47,7 +47,7 @@ erased-bads false n m is = omega arith
 
 pub Counted-erased_one : (s new : State) (e : ℕ) (is_bad : Bool) → e < length s.erases → ErasedOne e is_bad s new → Counted 0 1 (chart s) (chart new)
 Counted-erased_one s new e is_bad lt one = subst (λ (x : State). Counted 0 1 (chart s) (chart x)) (sym one.is)
-    (record { power = inl (refl, refl); cuts = omega arith; bads = erased-bads is_bad s.bads new.bads one.bads; begun = omega arith; few = omega arith; erases = Grows-up s.erases e lt; pulled = refl; plans = refl; last_plan = refl; lives = refl; given = refl })
+    (record { power = inl (refl, refl); cuts = omega arith; bads = erased-bads is_bad s.bads new.bads one.bads; begun = omega arith; few = omega arith; erases = Grows-up s.erases e lt; pulled = refl; plans = refl; last_plan = refl; lives = refl; given = refl; notes = refl })
 
 -- an erase in the middle of formatting
 pub erase-reached : (s new : State) (e : ℕ) (is_bad : Bool) → e < length s.erases → ErasedOne e is_bad s new → Reached 1 (chart s) (chart new)

@@ -26,7 +26,7 @@ pub Grows-more : (j k : ℕ) (xs ys : List ℕ) → j ≤ k → Grows j xs ys �
 Grows-more j k xs ys le g = record { long = g.long; each = g.each; least = g.least; few = let x = g.few in omega arith }
 
 pub Counted-refl : (c : Chart) → Counted 0 0 c c
-Counted-refl c = record { power = inl (refl, refl); cuts = omega arith; bads = omega arith; begun = omega arith; few = omega arith; erases = Grows-refl _; pulled = refl; plans = refl; last_plan = refl; lives = refl; given = refl }
+Counted-refl c = record { power = inl (refl, refl); cuts = omega arith; bads = omega arith; begun = omega arith; few = omega arith; erases = Grows-refl _; pulled = refl; plans = refl; last_plan = refl; lives = refl; given = refl; notes = refl }
 
 pub Counted-trans : (i j k l : ℕ) (a b c : Chart) → Counted i j a b → Counted k l b c → Counted (i + k) (j + l) a c
 Counted-trans i j k l a b c s t = record {
@@ -41,17 +41,18 @@ Counted-trans i j k l a b c s t = record {
   last_plan = t.last_plan ∙ s.last_plan;
   lives = t.lives ∙ s.lives;
   given = t.given ∙ s.given;
+  notes = t.notes ∙ s.notes;
 }
 
 pub Counted-more : (i j k l : ℕ) (a b : Chart) → i ≤ k → j ≤ l → Counted i j a b → Counted k l a b
-Counted-more i j k l a b le less s = record { power = s.power; cuts = s.cuts; bads = s.bads; begun = s.begun; few = let x = s.few in omega arith; erases = Grows-more _ _ _ _ less s.erases; pulled = s.pulled; plans = s.plans; last_plan = s.last_plan; lives = s.lives; given = s.given }
+Counted-more i j k l a b le less s = record { power = s.power; cuts = s.cuts; bads = s.bads; begun = s.begun; few = let x = s.few in omega arith; erases = Grows-more _ _ _ _ less s.erases; pulled = s.pulled; plans = s.plans; last_plan = s.last_plan; lives = s.lives; given = s.given; notes = s.notes }
 
 -- other fields, with power on or after it failed
 pub Counted-fields : (c : Chart) (f : Fields) → Counted 0 0 c (with_fields c f)
-Counted-fields c f = record { power = inl (refl, refl); cuts = omega arith; bads = omega arith; begun = omega arith; few = omega arith; erases = Grows-refl _; pulled = refl; plans = refl; last_plan = refl; lives = refl; given = refl }
+Counted-fields c f = record { power = inl (refl, refl); cuts = omega arith; bads = omega arith; begun = omega arith; few = omega arith; erases = Grows-refl _; pulled = refl; plans = refl; last_plan = refl; lives = refl; given = refl; notes = refl }
 
 pub Counted-failed : (c : Chart) (f : Fields) → IsTrue c.on → Counted 0 0 c (failed (with_fields c f))
-Counted-failed c f on = record { power = inr (on, refl, refl); cuts = up-least c.cuts; bads = omega arith; begun = omega arith; few = omega arith; erases = Grows-refl _; pulled = refl; plans = refl; last_plan = refl; lives = refl; given = refl }
+Counted-failed c f on = record { power = inr (on, refl, refl); cuts = up-least c.cuts; bads = omega arith; begun = omega arith; few = omega arith; erases = Grows-refl _; pulled = refl; plans = refl; last_plan = refl; lives = refl; given = refl; notes = refl }
 
 pub Worn-refl : (a b e : ℕ) → Worn a b e a b e
 Worn-refl a b e = record { rises = omega arith; least = λ l. omega arith; most = λ l m. omega arith }

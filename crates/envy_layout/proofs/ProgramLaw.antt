@@ -74,7 +74,7 @@ Same-written c q xs sound may = record {
     sound = Sound-programmed c.shape c.fields c.flash q xs may sound;
     live = words-same c.shape.pages _ _ (λ r j lt. word_at-programmed c.fields.frames c.flash q xs (place c.fields r) j (λ e. may.unnamed r (inl e)));
     durable = words-same c.shape.pages _ _ (λ r j lt. word_at-programmed c.fields.frames c.flash q xs (kept c.fields r) j (λ e. may.unnamed r (inr e)));
-    counted = record { power = inl (refl, refl); cuts = omega arith; bads = omega arith; begun = up-least c.begun; few = up-most c.begun; erases = Grows-refl _; pulled = refl; plans = refl; last_plan = refl; lives = refl; given = refl };
+    counted = record { power = inl (refl, refl); cuts = omega arith; bads = omega arith; begun = up-least c.begun; few = up-most c.begun; erases = Grows-refl _; pulled = refl; plans = refl; last_plan = refl; lives = refl; given = refl; notes = refl };
   };
   worn = Wears-refl c;
 }
@@ -90,7 +90,7 @@ Same-spoilt c sound = record {
     sound = sound;
     live = refl;
     durable = refl;
-    counted = record { power = inl (refl, refl); cuts = omega arith; bads = up-least c.bads; begun = omega arith; few = omega arith; erases = Grows-refl _; pulled = refl; plans = refl; last_plan = refl; lives = refl; given = refl };
+    counted = record { power = inl (refl, refl); cuts = omega arith; bads = up-least c.bads; begun = omega arith; few = omega arith; erases = Grows-refl _; pulled = refl; plans = refl; last_plan = refl; lives = refl; given = refl; notes = refl };
   };
   worn = Wears-refl c;
 }

@@ -30,6 +30,7 @@ pub record Counted (k j : ℕ) (old new : Chart) : Type 0 where
   pub last_plan : new.last_plan ≡ old.last_plan
   pub lives : new.lives ≡ old.lives
   pub given : new.given ≡ old.given
+  pub notes : new.notes ≡ old.notes
 
 -- A wear word went from a to c while the segment's erases went from b to d and power's failures from e
 -- to f: it rose by the erases at least, and by them and the failures at most. It stops at the top.

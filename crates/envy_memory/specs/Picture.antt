@@ -38,6 +38,7 @@ state_in p = record {
   last_plan = p.chart.last_plan;
   lives = p.chart.lives;
   given = p.chart.given;
+  notes = p.chart.notes;
 }
 
 -- the seven counters

@@ -46,6 +46,7 @@ sheet_of p begun = record {
   work = record { programs = p.chart.begun; erases = sum p.chart.erases };
   price = put_price p.chart.shape;
   fixed = fixed_of p.chart;
+  notes = p.chart.notes;
   beside = [];
   kept_beside = [];
 }

@@ -21,8 +21,8 @@ impl<B: OnDisk> Memory<B> {
         self.board.sync()
     }
 
-    /// A sync that leaves no more on the disk than what the board holds takes, unless the board says that this was
-    /// hindered. It writes all of it, so it takes longer.
+    /// A sync that leaves no more on the disk than what the board holds takes, unless this was hindered since the
+    /// last one. It writes all of it, so it takes longer.
     ///
     /// # Errors
     ///
@@ -32,7 +32,7 @@ impl<B: OnDisk> Memory<B> {
         ensures kept { self.new ≡ record self.old { chart = self.new.chart } }
         ensures synced { OnOk result (B.is_synced self.new.chart) }
         ensures compact { IfOk result (λ made. made ≡ Done → B.is_compact self.new.chart) }
-        ensures hindered { IfOk result (λ made. made ≡ Appended → B.is_hindered self.new.chart) }
+        ensures hindered { IfOk result (λ made. made ≡ Appended → B.is_hindered self.old.chart self.new.chart) }
     {
         self.board.compact()
     }

@@ -30,6 +30,7 @@ within first count s = record {
   work = s.work;
   price = s.price;
   fixed = first ∷ count ∷ length s.words ∷ s.fixed;
+  notes = s.notes;
   beside = outside first count s.words ++ s.beside;
   kept_beside = outside first count s.kept ++ s.kept_beside;
 }

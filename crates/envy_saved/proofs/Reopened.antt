@@ -1,6 +1,6 @@
 -- A board that was opened from a file.
 use Rattle.std.proofs.Common.{◌≡◌, ◌∙◌, ℕ, List, Ok, sym, ap, subst}
-use Rattle.envy_base.specs.State.{State}
+use Rattle.envy_base.specs.State.{Notes, State}
 use Rattle.envy_base.specs.declared.shape.Shape.{Shape}
 use Rattle.envy_disk.specs.Disk.{SyncsChart}
 use Rattle.envy_journal.specs.Content.{Content, content_of, holds}
@@ -13,18 +13,17 @@ use Rattle.envy_memory.specs.Calls.{Works}
 
 -- steps that sync nothing leave the last sync the last
 pub last_stays : (was old new : Chart) (k j : ℕ) → Works k j old new → IsLast was old → IsLast was new
-last_stays was old new k j works last = record { shape = last.shape ∙ sym works.shape; moment = works.counted.plans ∙ last.moment; bytes = works.counted.given ∙ last.bytes }
+last_stays was old new k j works last = record { shape = last.shape ∙ sym works.shape; sync = ap (λ (n : Notes). n.last) works.counted.notes ∙ last.sync }
 
 -- and the one before it
 pub before_stays : (was old new : Chart) (k j : ℕ) → Works k j old new → IsBefore was old → IsBefore was new
-before_stays was old new k j works before = record { shape = before.shape ∙ sym works.shape; moment = works.counted.pulled ∙ before.moment; bytes = works.counted.lives ∙ before.bytes }
+before_stays was old new k j works before = record { shape = before.shape ∙ sym works.shape; sync = ap (λ (n : Notes). n.before) works.counted.notes ∙ before.sync }
 
 -- a further sync makes the last the one before
 pub last_before : (was old new : Chart) → SyncsChart {T = Unit {0}} old (Ok tt) new → IsLast was old → IsBefore was new
-last_before was old new (on, plans, given, is) last = record {
+last_before was old new (on, sync, is) last = record {
   shape = last.shape ∙ sym (ap (λ (c : Chart). c.shape) is);
-  moment = ap (λ (c : Chart). c.pulled) is ∙ last.moment;
-  bytes = ap (λ (c : Chart). c.lives) is ∙ last.bytes;
+  sync = ap (λ (c : Chart). c.notes.before) is ∙ last.sync;
 }
 
 module _ (was : Chart) (s : State) (file : List ℕ) (opens : Reopens was file) (shape : s.shape ≡ was.shape) (content : content_of s ≡ holds s.shape (operations file)) where

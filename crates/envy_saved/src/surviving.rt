@@ -15,11 +15,11 @@ use envy_synced::Kept;
 /// crash since the sync before, also inside the last one, left what that one brought to the disk, or one of these.
 pub fn device<B: Steady, D: Device>(memory: &Memory<Kept<B, D>>) -> &D
     ensures last { (was : Chart) → IsSynced was → IsLast was memory.now.chart
-        → (file : List ℕ) → D.left_since result.now was.plans file
+        → (file : List ℕ) → D.left_since result.now was.notes.last.moment file
         → ∥ Reopens was file ⊎ ((memory.now.chart.on ≡ false) × Reopens memory.now.chart file) ∥₁ }
     ensures one_before { (first was : Chart) → IsSynced first → IsSynced was → IsBefore first memory.now.chart
         → IsLast was memory.now.chart
-        → (file : List ℕ) → D.left_since result.now first.plans file
+        → (file : List ℕ) → D.left_since result.now first.notes.last.moment file
         → ∥ Reopens first file
         ⊎ (Reopens was file ⊎ ((memory.now.chart.on ≡ false) × Reopens memory.now.chart file)) ∥₁ }
 {
@@ -31,18 +31,18 @@ pub fn device<B: Steady, D: Device>(memory: &Memory<Kept<B, D>>) -> &D
 /// is at the end of its range.
 pub fn close<B: Steady + Drop, D: Device>(memory: Memory<Kept<B, D>>) -> (D, usize)
     ensures last { (was : Chart) → IsSynced was → IsLast was memory.chart
-        → (file : List ℕ) → D.left_since result.0 was.plans file
+        → (file : List ℕ) → D.left_since result.0 was.notes.last.moment file
         → ∥ Reopens was file ⊎ ((memory.chart.on ≡ false) × Reopens memory.chart file) ∥₁ }
     // a file of the first kind has the operations that were on the disk then
-    ensures reads { (was : Chart) (synced : IsSynced was) → IsLast was memory.chart
-        → (file : List ℕ) → D.left_since result.0 was.plans file
-        → ∥ StandsFor was.shape (operations synced.bytes) file
+    ensures reads { (was : Chart) → IsSynced was → IsLast was memory.chart
+        → (file : List ℕ) → D.left_since result.0 was.notes.last.moment file
+        → ∥ StandsFor was.shape (operations was.notes.last.bytes) file
         ⊎ ((memory.chart.on ≡ false) × Reopens memory.chart file) ∥₁ }
     ensures one_before { (first was : Chart) → IsSynced first → IsSynced was → IsBefore first memory.chart
         → IsLast was memory.chart
-        → (file : List ℕ) → D.left_since result.0 first.plans file
+        → (file : List ℕ) → D.left_since result.0 first.notes.last.moment file
         → ∥ Reopens first file ⊎ (Reopens was file ⊎ ((memory.chart.on ≡ false) × Reopens memory.chart file)) ∥₁ }
-    ensures time { memory.chart.plans ≤ D.moment result.0 }
+    ensures time { memory.chart.notes.last.moment ≤ D.moment result.0 }
     ensures ended { memory.chart.on ≡ false → length (D.seen result.0) + result.1 < 2 ^ 60
         → IsTrue (D.has_failed result.0) }
     ensures few { result.1 ≤ most_held }

@@ -1,4 +1,3 @@
 pub mod Going
 pub mod Lightened
-pub mod Numbers
 pub mod Telling

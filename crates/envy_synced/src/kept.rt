@@ -19,14 +19,14 @@ use envy_journal::{Journaled, Steady};
 use std::mem;
 use std::snapshot::Snapshot;
 
-/// A journaled board that tells what is on the disk.
+/// A journaled board whose notes tell what is on the disk.
 #[derive(Drop)]
 pub struct Kept<B: Steady, D: Device> {
     journal: Journaled<B, D>,
     // as it was behind the last sync that succeeded, and behind the one before
     synced: Snapshot<Journaled<B, D>>,
     before: Snapshot<Journaled<B, D>>,
-    ghost kept: { IsKept D.seen D.moment D.left_since journal.log synced.value.log before.value.log (journal_state journal.dead (B.state journal.board)) } by { Prim.hlevel props },
+    ghost kept: { IsKept D.seen D.moment D.hindered D.left_since journal.log synced.value.log before.value.log (journal_state journal.dead (B.state journal.board)) } by { Prim.hlevel props },
     // the file has no more of what isn't synced than a limit
     ghost light: { journal.dead ≡ false → spilled journal.log ≤ limit_of (B.state journal.board).shape },
 }
@@ -38,8 +38,7 @@ impl<B: Steady, D: Device> Kept<B, D> {
         requires rests { done D.seen journal.log ≡ kept D.seen journal.log }
         ensures journal { result.journal ≡ journal }
         ensures synced { IsSynced (chart (⟦<Kept<B, D> as Board>⟧.state result)) }
-        ensures reads { (synced : IsSynced (chart (⟦<Kept<B, D> as Board>⟧.state result)))
-            × (operations synced.bytes ≡ kept D.seen journal.log) }
+        ensures reads { operations (⟦<Kept<B, D> as Board>⟧.state result).notes.last.bytes ≡ kept D.seen journal.log }
     {
         let synced = Snapshot::of(&journal);
         let before = Snapshot::of(&journal);
@@ -59,22 +58,22 @@ impl<B: Steady, D: Device> Kept<B, D> {
         ensures here { result.now ≡ self.now.journal.log.device }
         ensures light { IsTrue (⟦<Kept<B, D> as Board>⟧.state self.now).on
             → spilled self.now.journal.log ≤ limit_of (⟦<Kept<B, D> as Board>⟧.state self.now).shape }
-        ensures time { (⟦<Kept<B, D> as Board>⟧.state self.now).plans ≤ D.moment result.now }
+        ensures time { (⟦<Kept<B, D> as Board>⟧.state self.now).notes.last.moment ≤ D.moment result.now }
         ensures last { (was : Chart) → IsSynced was → IsLast was (chart (⟦<Kept<B, D> as Board>⟧.state self.now))
-            → (file : List ℕ) → D.left_since result.now was.plans file
+            → (file : List ℕ) → D.left_since result.now was.notes.last.moment file
             → ∥ Reopens was file
             ⊎ (((⟦<Kept<B, D> as Board>⟧.state self.now).on ≡ false)
             × Reopens (chart (⟦<Kept<B, D> as Board>⟧.state self.now)) file) ∥₁ }
-        ensures reads { (was : Chart) (synced : IsSynced was)
+        ensures reads { (was : Chart) → IsSynced was
             → IsLast was (chart (⟦<Kept<B, D> as Board>⟧.state self.now))
-            → (file : List ℕ) → D.left_since result.now was.plans file
-            → ∥ StandsFor was.shape (operations synced.bytes) file
+            → (file : List ℕ) → D.left_since result.now was.notes.last.moment file
+            → ∥ StandsFor was.shape (operations was.notes.last.bytes) file
             ⊎ (((⟦<Kept<B, D> as Board>⟧.state self.now).on ≡ false)
             × Reopens (chart (⟦<Kept<B, D> as Board>⟧.state self.now)) file) ∥₁ }
         ensures one_before { (first was : Chart) → IsSynced first → IsSynced was
             → IsBefore first (chart (⟦<Kept<B, D> as Board>⟧.state self.now))
             → IsLast was (chart (⟦<Kept<B, D> as Board>⟧.state self.now))
-            → (file : List ℕ) → D.left_since result.now first.plans file
+            → (file : List ℕ) → D.left_since result.now first.notes.last.moment file
             → ∥ Reopens first file
             ⊎ (Reopens was file
             ⊎ (((⟦<Kept<B, D> as Board>⟧.state self.now).on ≡ false)
@@ -103,7 +102,7 @@ impl<B: Steady, D: Device> Board for Kept<B, D> {
 
     ghost state = { λ k. disk_state D.seen D.moment D.hindered k.synced.value.log k.before.value.log (journal_state k.journal.dead (B.state k.journal.board)) };
 
-    ghost lawful = { λ k. lawful_disk _ _ _ _ _ (lawful_lem k.journal.dead (B.state k.journal.board) (B.lawful k.journal.board)) };
+    ghost lawful = { λ k. lawful_disk _ _ (lawful_lem k.journal.dead (B.state k.journal.board) (B.lawful k.journal.board)) };
 
     fn shape(&self) -> Shape {
         self.journal.shape()

@@ -23,6 +23,5 @@ returns-in-Err-clause-left g c =
 
 pub returns-clause-left : goal.returns-clause-left
 returns-clause-left g c =
-    let (synced, reads) = c.new.ensures.reads in
-    err_on c.make_memory.result (c.make_memory.ensures.left synced [] (reads ∙ c.in-Ok.ensures.kept))
+    err_on c.make_memory.result (c.make_memory.ensures.left c.new.ensures.synced [] (c.new.ensures.reads ∙ c.in-Ok.ensures.kept))
     (λ e l. leaves-as g.D.Device.left_since g.D.Device.moment e.1 (StaysNew e.0 c.args.setup.shape []) (λ file. IsUnmade file ⊎ StaysNew e.0 c.args.setup.shape [] file) (λ file stays. inr stays) l)

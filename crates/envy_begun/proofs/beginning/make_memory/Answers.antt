@@ -12,7 +12,7 @@ sync_first-requires-clause-stands g c =
     subst (λ (sh : Shape). Stands c.in-Ok.memory.chart (zeros sh.pages sh.shadows)) (CountsFormat.shape c.in-Ok.ensures.counts ∙ c.requires.shape) (IsFresh.stands (Makes.fresh c.in-Ok.ensures.made))
 
 pub returns-in-Ok-clause-left : goal.returns-in-Ok-clause-left
-returns-in-Ok-clause-left g c synced before none = c.sync_first.ensures.left _ synced before (counts-last _ _ c.in-Ok.memory.chart c.in-Ok.ensures.counts (record { shape = refl; moment = refl; bytes = refl })) none
+returns-in-Ok-clause-left g c synced before none = c.sync_first.ensures.left _ synced before (counts-last _ _ c.in-Ok.memory.chart c.in-Ok.ensures.counts (record { shape = refl; sync = refl })) none
 
 pub returns-in-Err-clause-failed : goal.returns-in-Err-clause-failed
 returns-in-Err-clause-failed g c =
@@ -22,5 +22,5 @@ returns-in-Err-clause-failed g c =
 pub returns-in-Err-clause-left : goal.returns-in-Err-clause-left
 returns-in-Err-clause-left g c synced before none =
     format-leaves g.D.Device.left_since g.D.Device.moment c.args.setup.shape c.closed-device.result.0 _ _ synced none c.requires.shape c.in-Err.ensures.counts
-    (c.closed-device.ensures.reads _ synced (counts-last _ _ _ c.in-Err.ensures.counts (record { shape = refl; moment = refl; bytes = refl }))) c.closed-device.ensures.time
+    (c.closed-device.ensures.reads _ synced (counts-last _ _ _ c.in-Err.ensures.counts (record { shape = refl; sync = refl }))) c.closed-device.ensures.time
     before g.D.Device.seen g.D.Device.has_failed c.args.setup c.unformatted.result.1 c.unformatted.result.0 c.in-Err.fault c.closed-device.result.1 c.in-Err.ensures.made c.unformatted.ensures.says c.unformatted.ensures.time c.unformatted.ensures.left

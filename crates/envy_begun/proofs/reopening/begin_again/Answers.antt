@@ -72,9 +72,9 @@ returns-in-Err-attach-clause-left g c =
 pub returns-in-Ok-attach-clause-compacted : goal.returns-in-Ok-attach-clause-compacted
 returns-in-Ok-attach-clause-compacted g c asked =
     let kept : Kept _ c.in-Ok-attach.memory.chart = Attaches.kept c.in-Ok-attach.ensures in
-    still-compact _ c.in-Ok-attach.memory.chart kept.shape kept.counted.given (c.in-Ok-opened_as_asked.ensures.compacted asked)
+    still-compact _ c.in-Ok-attach.memory.chart kept.shape kept.counted.notes (c.in-Ok-opened_as_asked.ensures.compacted asked)
 
 pub returns-in-Ok-attach-clause-same : goal.returns-in-Ok-attach-clause-same
 returns-in-Ok-attach-clause-same g c not =
     let kept : Kept _ c.in-Ok-attach.memory.chart = Attaches.kept c.in-Ok-attach.ensures in
-    still-same c.args.bytes.now _ c.in-Ok-attach.memory.chart kept.counted.given (c.in-Ok-opened_as_asked.ensures.same not)
+    still-same c.args.bytes.now _ c.in-Ok-attach.memory.chart kept.counted.notes (c.in-Ok-opened_as_asked.ensures.same not)

@@ -38,8 +38,7 @@ returns-in-Err-opened-clause-left g c none =
 
 pub returns-clause-left : goal.returns-clause-left
 returns-clause-left g c none =
-    let (synced, reads) = c.in-Ok-opened.ensures.reads in
-    c.make_memory.ensures.left synced c.args.bytes.now (reads ∙ none)
+    c.make_memory.ensures.left c.in-Ok-opened.ensures.synced c.args.bytes.now (c.in-Ok-opened.ensures.reads ∙ none)
 
 pub opened-requires-clause-opened : goal.opened-requires-clause-opened
 opened-requires-clause-opened g c =

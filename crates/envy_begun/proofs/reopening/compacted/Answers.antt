@@ -13,4 +13,4 @@ pub returns-in-Ok-Appended-clause-left : goal.returns-in-Ok-Appended-clause-left
 returns-in-Ok-Appended-clause-left g c sh file o =
     let opened = synced-opened {T = Compaction} _ _ c.in-Ok-Appended.field-0 sh file c.in-Ok-Appended.ensures.answer o in
     leaves-on g.D.Device.left_since g.D.Device.moment c.closed-device.result.0 c.no_second.result.1 (OpensAlike sh file) c.no_second.ensures.time c.no_second.ensures.left
-    (leaves-alike g.D.Device.left_since g.D.Device.moment sh file c.closed-device.result.0 _ _ opened c.in-Ok-Appended.ensures.synced c.closed-device.ensures.last c.closed-device.ensures.time opened (record { shape = refl; moment = refl; bytes = refl }))
+    (leaves-alike g.D.Device.left_since g.D.Device.moment sh file c.closed-device.result.0 _ _ opened c.in-Ok-Appended.ensures.synced c.closed-device.ensures.last c.closed-device.ensures.time opened (record { shape = refl; sync = refl }))

@@ -11,10 +11,10 @@ returns-in-Ok-clause-opened g c =
     let j = c.in-Ok.journal in
     let o = subst (λ (b : g.row.B.Denot). IsOpened (g.B.Board.state c.args.board).shape c.args.bytes.now (g.B.Board.state b)) (sym c.in-Ok.ensures.board) c.requires.opened in
     rw c.new.ensures.journal
-    (opened-state (g.B.Board.state j.board) j.dead _ _ _ _ (g.B.Board.state c.args.board).shape c.args.bytes.now c.in-Ok.ensures.alive.0 o)
+    (opened-state (g.B.Board.state j.board) j.dead _ (g.B.Board.state c.args.board).shape c.args.bytes.now c.in-Ok.ensures.alive.0 o)
 
 pub returns-in-Ok-clause-reads : goal.returns-in-Ok-clause-reads
-returns-in-Ok-clause-reads g c = (c.new.ensures.reads.0, c.new.ensures.reads.1 ∙ c.in-Ok.ensures.kept)
+returns-in-Ok-clause-reads g c = c.new.ensures.reads ∙ c.in-Ok.ensures.kept
 
 pub returns-in-Err-clause-failed : goal.returns-in-Err-clause-failed
 returns-in-Err-clause-failed g c =

@@ -1,4 +1,4 @@
-use Rattle.envy_begun.proofs.Again.{err_on, has-operations, ok_on}
+use Rattle.envy_begun.proofs.Again.{err_on, ok_on}
 use Rattle.envy_begun.proofs.Alike.{leaves-as, stands-alike}
 use Rattle.envy_begun.specs.Left.{OpensAlike}
 use Rattle.envy_journal.specs.Head.{StandsFor}
@@ -19,7 +19,5 @@ returns-in-Err-clause-left g c =
 
 pub returns-in-Ok-clause-same : goal.returns-in-Ok-clause-same
 returns-in-Ok-clause-same g c not =
-    let file = c.args.bytes.now in
-    let (synced, reads) = c.in-Ok.ensures.reads in
-    let here = has-operations file _ synced reads in
+    let here = c.in-Ok.ensures.reads in
     ok_on c.compacted.result (c.compacted.ensures.same not) (λ after is. rw is here)

@@ -11,6 +11,7 @@ loop-row-preserved g c =
     record {
       remakes = c.in_ok-renew_row.ensures.remakes;
       stays = stays_both D.seen D.may_leave D.moment D.left_since D.synced c.args.log.now c.loop-row.log c.renew_row.new.log c.loop-row.invariant.stays c.renew_row.ensures.stays;
+      hindered = c.renew_row.ensures.hindered ∙ c.loop-row.invariant.hindered;
     }
 
 pub returns-in_err-renew_row-clause-stays : goal.returns-in_err-renew_row-clause-stays

@@ -10,6 +10,7 @@ loop-segment-preserved g c =
     record {
       remakes = c.in_ok-renew_segment.ensures.remakes;
       stays = stays_both D.seen D.may_leave D.moment D.left_since D.synced c.args.log.now c.loop-segment.log c.renew_segment.new.log c.loop-segment.invariant.stays c.renew_segment.ensures.stays;
+      hindered = c.renew_segment.ensures.hindered ∙ c.loop-segment.invariant.hindered;
     }
 
 pub returns-in_err-renew_segment-clause-stays : goal.returns-in_err-renew_segment-clause-stays

@@ -20,6 +20,7 @@ loop-w-preserved g c =
     record {
       remakes = c.in_ok-renew_word.ensures.remakes;
       stays = stays_both D.seen D.may_leave D.moment D.left_since D.synced c.args.log.now c.loop-w.log c.renew_word.new.log c.loop-w.invariant.stays c.renew_word.ensures.stays;
+      hindered = c.renew_word.ensures.hindered ∙ c.loop-w.invariant.hindered;
     }
 
 pub returns-in_err-renew_word-clause-stays : goal.returns-in_err-renew_word-clause-stays
