@@ -4,9 +4,9 @@ use Rattle.std.specs.List.{list_any, list_all, starts_with, before_first, after_
 use Rattle.std.specs.Option.{option_map, option_map_or, option_and_then}
 use Rattle.std.specs.Str.{bytes_eq, all_ascii_digits}
 use Rattle.std.specs.Str.Parse.{digits_value}
-use Rattle.envy_base.specs.declared.area.Area.{Area}
+use Rattle.envy_array.specs.declared.area.Area.{Area}
 use Rattle.envy_base.specs.declared.shape.Shape.{Shape}
-use Rattle.envy_base.specs.Area.{history_at}
+use Rattle.envy_array.specs.Area.{history_at}
 use Rattle.envy_policy.specs.declared.setup.Policy.{Policy}
 use Rattle.envy_gen.specs.declared.mix.Mix.{Mix}
 use Rattle.envy_gen.specs.declared.mix.Skew.{Skew}

@@ -1,4 +1,4 @@
-use envy_base::Area;
+use envy_array::Area;
 use envy_gen::Mix;
 use envy_policy::{Policy, Setup};
 

@@ -6,7 +6,8 @@ ghost use Rattle.envy_args.specs.Reading.{GivesIf, has_number, are_readable, sha
 use crate::command::{Command, WordsFault};
 use crate::options::Options;
 use crate::word::Word;
-use envy_base::{Area, MOST_ROWS, Shape};
+use envy_array::Area;
+use envy_base::{MOST_ROWS, Shape};
 use envy_gen::{Mix, Skew};
 use envy_policy::{Setup, SetupFault};
 use std::alloc::Global;

@@ -8,7 +8,7 @@ use Rattle.envy_base.specs.Shape.{version_of}
 use Rattle.envy_base.specs.State.{Notes, IsBoard, State}
 use Rattle.envy_base.proofs.Versions.{version-known}
 use Rattle.envy_base.specs.declared.shape.Shape.{Shape}
-use Rattle.envy_base.proofs.Undoing.{undo_all-closed}
+use Rattle.envy_array.proofs.Undoing.{undo_all-closed}
 use Rattle.envy_begun.specs.Beginning.{HasBegun, HasOperationsOf, HasStopped, IsStopped}
 use Rattle.envy_begun.specs.Opens.{OpensAs}
 use Rattle.envy_begun.specs.Plans.{BeginsOn, IsOpened}
@@ -32,7 +32,7 @@ use Rattle.envy_journal.specs.declared.opening.OpenError.TheVariants.{Failed as 
 use Rattle.envy_synced.specs.Disk.{IsCompact, IsSynced, Reopens}
 use Rattle.envy_layout.specs.Same.{Kept}
 use Rattle.envy_layout.specs.Sound.{Head, IsSound, Sound}
-use Rattle.envy_layout.specs.Stands.{Stands}
+use Rattle.envy_meaning.specs.Stands.{Stands}
 use Rattle.envy_layout.specs.Words.{durable}
 use Rattle.envy_map.specs.Codes.{the_magic}
 use Rattle.envy_map.specs.Fields.{Chart, chart, map_fields, shape_of}

@@ -2,7 +2,7 @@
 use Rattle.std.proofs.Common.{◌≡◌, inl, inr, ℕ, false, refl, sym, ◌∙◌, List, ap, subst}
 use Rattle.std.specs.Prelude.{Ok, Err}
 use Rattle.envy_base.specs.State.{SyncNote}
-use Rattle.envy_base.specs.Array.{Array, zeros}
+use Rattle.envy_array.specs.Array.{Array, zeros}
 use Rattle.envy_base.specs.Shape.{version_of}
 use Rattle.envy_base.specs.declared.board.Off.{Off}
 use Rattle.envy_begun.specs.Beginning.{HasBegun}
@@ -12,7 +12,7 @@ use Rattle.envy_begun.proofs.Opening.{IsGood}
 use Rattle.envy_disk.specs.Disk.{SyncsChart, with_sync}
 use Rattle.envy_synced.specs.Disk.{IsSynced}
 use Rattle.envy_layout.specs.Formatting.{IsEmpty}
-use Rattle.envy_layout.specs.Stands.{Holds, Stands}
+use Rattle.envy_meaning.specs.Stands.{Holds, Stands}
 use Rattle.envy_layout.specs.Words.{durable}
 use Rattle.envy_map.specs.Fields.{Chart}
 use Rattle.envy_memory.specs.Formats.{IsFresh, IsStarted}

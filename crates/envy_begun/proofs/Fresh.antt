@@ -3,12 +3,12 @@ use Rattle.std.proofs.Common.{◌≡◌, ◌⊎◌, ◌∙◌, ◌≤◌, inl, i
 use Rattle.std.specs.Prelude.{IsTrue, slice_index}
 use Rattle.std.proofs.Math.Logic.{∥∥₁_map}
 use Rattle.std.proofs.lemmas.Bool.{false≢true}
-use Rattle.envy_base.specs.Array.{Array, zeros}
+use Rattle.envy_array.specs.Array.{Array, zeros}
 use Rattle.envy_base.specs.Map.{words_of}
 use Rattle.envy_base.specs.State.{Notes, SyncNote, State}
 use Rattle.envy_base.specs.declared.board.Off.{Off}
 use Rattle.envy_base.specs.declared.shape.Shape.{Shape}
-use Rattle.envy_base.proofs.Undoing.{undo_all-closed}
+use Rattle.envy_array.proofs.Undoing.{undo_all-closed}
 use Rattle.envy_begun.specs.Left.{IsUnformatted, Leaves, OpensAsZeros, StaysNew}
 use Rattle.envy_begun.specs.Beginning.{IsStopped}
 use Rattle.envy_begun.specs.Unserved.{Refrains}
@@ -23,7 +23,7 @@ use Rattle.envy_journal.specs.Content.{holds}
 use Rattle.envy_journal.specs.Head.{IsNewOrUnmade, IsUnmade, StandsFor}
 use Rattle.envy_journal.specs.Reading.{operations}
 use Rattle.envy_journal.specs.declared.operation.Operation.{Operation}
-use Rattle.envy_layout.specs.Stands.{Holds, Stands}
+use Rattle.envy_meaning.specs.Stands.{Holds, Stands}
 use Rattle.envy_layout.specs.Words.{durable}
 use Rattle.envy_map.specs.Fields.{Chart, Fields, chart, map_fields}
 use Rattle.envy_memory.specs.Formats.{CountsFormat, MayFormat, Refuses}

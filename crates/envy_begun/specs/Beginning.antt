@@ -1,14 +1,14 @@
 -- A memory that is kept in a file, before its first line.
 use Rattle.std.specs.Prelude.{◌≡◌, ℕ, ◌+◌, ◌^◌, ◌<◌, ◌≤◌, IsTrue, Bool, false, List, ◌∷◌, length}
 use Rattle.envy_base.specs.Shape.{version_of}
-use Rattle.envy_base.specs.Array.{Array, undone}
+use Rattle.envy_array.specs.Array.{Array, undone}
 use Rattle.envy_begun.specs.declared.unbegun.Unbegun.{Unbegun}
 use Rattle.envy_begun.specs.declared.unbegun.Unbegun.TheVariants.{Failed, Memory, NotMade}
 use Rattle.envy_journal.specs.Held.{most_held}
 use Rattle.envy_journal.specs.Reading.{operations}
 use Rattle.envy_synced.specs.Disk.{IsLast, IsSynced}
 use Rattle.envy_layout.specs.Sound.{IsSound}
-use Rattle.envy_layout.specs.Stands.{Stands}
+use Rattle.envy_meaning.specs.Stands.{Stands}
 use Rattle.envy_layout.specs.Words.{durable}
 use Rattle.envy_map.specs.Codes.{the_magic}
 use Rattle.envy_map.specs.Fields.{Chart}

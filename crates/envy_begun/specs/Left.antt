@@ -1,6 +1,6 @@
 -- What a crash leaves of a file in which no memory began.
 use Rattle.std.specs.Prelude.{◌≡◌, ◌⊎◌, ℕ, ◌≤◌, List, [], slice_index}
-use Rattle.envy_base.specs.Array.{zeros}
+use Rattle.envy_array.specs.Array.{zeros}
 use Rattle.envy_base.specs.State.{State}
 use Rattle.envy_base.specs.declared.shape.Shape.{Shape}
 use Rattle.envy_begun.specs.Opens.{OpensAs}

@@ -1,12 +1,12 @@
 ghost use Rattle.std.specs.Prelude.{◌≡◌, ◌⊎◌, ◌≤◌, [], List, ℕ, false, IfOk, IfErr};
-ghost use Rattle.envy_base.specs.Array.{zeros};
+ghost use Rattle.envy_array.specs.Array.{zeros};
 ghost use Rattle.envy_device.specs.Device.{Only};
 ghost use Rattle.envy_journal.specs.Content.{blank, content_of};
 ghost use Rattle.envy_journal.specs.Head.{IsUnmade, StandsFor};
 ghost use Rattle.envy_journal.specs.Reading.{operations};
 ghost use Rattle.envy_begun.specs.Beginning.{HasBegun, HasStopped, IsStopped};
 ghost use Rattle.envy_begun.specs.Left.{Leaves, StaysNew};
-ghost use Rattle.envy_layout.specs.Stands.{Stands};
+ghost use Rattle.envy_meaning.specs.Stands.{Stands};
 ghost use Rattle.envy_map.specs.Fields.{Chart, chart};
 ghost use Rattle.envy_synced.specs.Disk.{IsLast, IsSynced, Reopens};
 ghost use Rattle.envy_memory.specs.Formats.{IsFresh, IsStarted};

@@ -1,6 +1,6 @@
 // A journal that a file holds is opened, and a memory is attached.
 ghost use Rattle.std.specs.Prelude.{◌≡◌, ◌≢◌, ◌⊎◌, [], List, ℕ, false, IfOk, IfErr, IsTrue, OnOk, Ok};
-ghost use Rattle.envy_base.specs.Array.{zeros};
+ghost use Rattle.envy_array.specs.Array.{zeros};
 ghost use Rattle.envy_device.specs.Device.{Only};
 ghost use Rattle.envy_journal.specs.Content.{HasMisfit, blank, content_of};
 ghost use Rattle.envy_journal.specs.Found.{IsEnd};

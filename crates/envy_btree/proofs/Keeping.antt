@@ -3,7 +3,8 @@ use Rattle.std.proofs.Common.{◌≡◌, ◌⊎◌, ℕ, ◌+◌, ◌-◌, ◌^�
 use Rattle.std.proofs.lemmas.Bool.{cases_lt}
 use Rattle.envy_base.specs.declared.board.Trouble.{Trouble}
 use Rattle.envy_base.specs.declared.board.Trouble.TheVariants.{Off, Bad}
-use Rattle.envy_base.specs.Words.{Sheet, Works, Keeps, Fails, Rose}
+use Rattle.envy_array.specs.Words.{Sheet, Works, Keeps, Fails}
+use Rattle.envy_base.specs.Counting.{Rose}
 use Rattle.envy_btree.specs.Answers.{Tried}
 
 on_or_off : (b : Bool) → IsTrue b ⊎ (b ≡ false)

@@ -1,11 +1,11 @@
 -- What a call answers by a number, and what it leaves in the place for a memory: all that the memory's call says of
 -- the answer that the number stands for. Where the place holds no memory that is the answer, and nothing changes.
 use Rattle.std.specs.Prelude.{◌≡◌, ◌≢◌, ◌↔◌, ℕ, false, IsErrOf, OnOk, slice_index, nat_lt, if◌then◌else◌, Option, None, Some, Result, Ok, Err}
-use Rattle.envy_base.specs.Array.{Array}
+use Rattle.envy_array.specs.Array.{Array}
 use Rattle.envy_base.specs.declared.board.Trouble.{Trouble}
 use Rattle.envy_base.specs.declared.board.Trouble.TheVariants.{Off as TroubleOff, Bad as TroubleBad}
-use Rattle.envy_base.specs.declared.counts.Counts.{Counts as CountsOf}
-use Rattle.envy_layout.specs.Stands.{Stands}
+use Rattle.envy_array.specs.declared.counts.Counts.{Counts as CountsOf}
+use Rattle.envy_meaning.specs.Stands.{Stands}
 use Rattle.envy_layout.specs.Words.{durable}
 use Rattle.envy_flush.specs.declared.did.Did.{Did}
 use Rattle.envy_memory.specs.Below.{IsPast, IsOwned, IsBusy, IsShut, IsShutTo, IsKeptFrom, IsFull, LoadsBelow, StoresBelow, BeginsBelow, PutsBelow, CommitsBelow, AbortsBelow, TicksBelow}

@@ -6,7 +6,7 @@ use Rattle.envy_base.specs.declared.board.Trouble.{Trouble}
 use Rattle.envy_base.specs.declared.board.Trouble.TheVariants.{Off as TroubleOff, Bad}
 use Rattle.envy_base.specs.declared.shape.Shape.{Shape}
 use Rattle.envy_base.specs.State.{State, IsPage, IsOnes, Only, ands, row_of, with_word, with_row, with_segment}
-use Rattle.envy_base.specs.Words.{Rose}
+use Rattle.envy_base.specs.Counting.{Rose}
 
 -- the board with c failures of power and b bad operations counted
 abbrev pub with_failures : State → ℕ → ℕ → State

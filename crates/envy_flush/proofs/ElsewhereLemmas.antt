@@ -20,11 +20,11 @@ use Rattle.envy_layout.specs.Naming.{AreParted}
 use Rattle.envy_layout.specs.PageRows.{page_kept_in}
 use Rattle.envy_layout.specs.RowKinds.{is_shadow_in}
 use Rattle.envy_layout.specs.Sound.{Sound, Slots, Places, IsSound, Names, owned_by, slot_named}
-use Rattle.envy_layout.specs.Transactions.{Owns}
+use Rattle.envy_meaning.specs.Transactions.{Owns}
 use Rattle.envy_layout.specs.Words.{kept, kept_by, word_at}
 use Rattle.envy_layout.proofs.KeptCounts.{page_kept_in-free}
 use Rattle.envy_layout.proofs.KeptLemmas.{kept_by-free, kept_by-active}
-use Rattle.envy_layout.proofs.Owners.{unowned}
+use Rattle.envy_meaning.proofs.Owners.{unowned}
 use Rattle.envy_space.specs.Pool.{PoolAgrees}
 use Rattle.envy_space.proofs.NotingLemmas.{PoolAgrees-same}
 use Rattle.envy_table.specs.Agreement.{AreCurrent}

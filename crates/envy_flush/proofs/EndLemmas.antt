@@ -15,7 +15,7 @@ use Rattle.envy_frames.specs.Agreement.{AreHeld}
 use Rattle.envy_layout.specs.May.{IsUnused}
 use Rattle.envy_layout.specs.Naming.{AreParted}
 use Rattle.envy_layout.specs.Sound.{Sound, IsSound, Slots, Names, slot_named, is_active}
-use Rattle.envy_layout.specs.Transactions.{Closes}
+use Rattle.envy_meaning.specs.Transactions.{Closes}
 use Rattle.envy_layout.specs.Words.{kept_by}
 use Rattle.envy_layout.proofs.KeptCounts.{kept_in-slot}
 use Rattle.envy_layout.proofs.SlotLaw.{kept_by-other, names-slot}

@@ -10,9 +10,9 @@ use Rattle.envy_map.specs.Writes.{Writes, with_frame_word}
 use Rattle.envy_layout.specs.Same.{Stays, Framed, Same, SameWords, SameDurable, Dropped}
 use Rattle.envy_layout.specs.Sound.{slots_of}
 use Rattle.envy_layout.proofs.Composition.{exits, at-each, Same-trans, Same-more, SameDurable-trans, SameDurable-more, SameDurable-same, SameDurable-words, SameDurable-dropped, Counted-trans, Counted-more, Wears-trans}
-use Rattle.envy_layout.specs.Transactions.{PutDone}
-use Rattle.envy_layout.proofs.Putting.{Owns-after}
-use Rattle.envy_layout.proofs.Owners.{owner_in-framed}
+use Rattle.envy_meaning.specs.Transactions.{PutDone}
+use Rattle.envy_meaning.proofs.Putting.{Owns-after}
+use Rattle.envy_meaning.proofs.Owners.{owner_in-framed}
 use Rattle.envy_txn.specs.Owners.{Ownership}
 use Rattle.envy_flush.proofs.JobLemmas.{IsPlanOf-words}
 use Rattle.envy_flush.specs.Agreement.{Steady}

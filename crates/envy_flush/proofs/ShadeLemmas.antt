@@ -20,13 +20,13 @@ use Rattle.envy_space.specs.Noting.{ChangesPage, NamesOneMore, lies_in}
 use Rattle.envy_space.specs.Pool.{Pool, PoolAgrees, noted_kept}
 use Rattle.envy_space.proofs.NotingLemmas.{PoolAgrees-kept, room-kept}
 use Rattle.envy_flush.specs.Agreement.{Agrees, PartsAgree}
-use Rattle.envy_layout.proofs.Owners.{unowned}
+use Rattle.envy_meaning.proofs.Owners.{unowned}
 use Rattle.envy_txn.specs.Owners.{Ownership}
 use Rattle.envy_flush.specs.Putting.{MayGive}
 use Rattle.envy_flush.specs.Flushing.{Granted}
 use Rattle.envy_layout.specs.Naming.{AreParted}
 use Rattle.envy_reloc.specs.Plan.{IsPlanOf, HasCopy}
-use Rattle.envy_layout.specs.Transactions.{Owns}
+use Rattle.envy_meaning.specs.Transactions.{Owns}
 use Rattle.envy_flush.specs.declared.parts.Parts.{Parts}
 
 -- what the page and the row are before

@@ -6,7 +6,7 @@ use Rattle.envy_base.specs.declared.fields.Slot.TheVariants.{Active, Committed}
 use Rattle.envy_map.specs.Fields.{Chart, slot, undo}
 use Rattle.envy_map.specs.Writes.{with_slot}
 use Rattle.envy_layout.specs.Sound.{IsSound}
-use Rattle.envy_layout.specs.Transactions.{Closes, TakesBack}
+use Rattle.envy_meaning.specs.Transactions.{Closes, TakesBack}
 use Rattle.envy_txn.specs.Owners.{Ownership, AreOwned, names_slot, others_of}
 use Rattle.envy_flush.specs.Agreement.{Agrees, Fits}
 use Rattle.envy_flush.specs.Storing.{Rows}

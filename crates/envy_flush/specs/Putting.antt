@@ -10,7 +10,7 @@ use Rattle.envy_base.specs.declared.fields.Undo.TheVariants.{Blank, Shadow}
 use Rattle.envy_map.specs.Fields.{Chart, with_fields, place, undo}
 use Rattle.envy_map.specs.Writes.{with_undo}
 use Rattle.envy_layout.specs.Same.{Same, SameWords, SameDurable}
-use Rattle.envy_layout.specs.Transactions.{Owns, PutDone}
+use Rattle.envy_meaning.specs.Transactions.{Owns, PutDone}
 use Rattle.envy_layout.specs.May.{IsOpen}
 use Rattle.envy_txn.specs.Owners.{Ownership, AreOwned, owner_of}
 use Rattle.envy_flush.specs.Flushing.{GetsRow, StopsFor}

@@ -5,7 +5,7 @@ ghost use Rattle.envy_frames.specs.Agreement.{IsElsewhere};
 ghost use Rattle.envy_layout.specs.May.{HasChanged};
 ghost use Rattle.envy_layout.specs.Same.{SameDurable};
 ghost use Rattle.envy_layout.specs.Sound.{IsSound};
-ghost use Rattle.envy_layout.specs.Transactions.{PutDone};
+ghost use Rattle.envy_meaning.specs.Transactions.{PutDone};
 ghost use Rattle.envy_table.specs.Hits.{Accesses};
 ghost use Rattle.envy_flush.specs.Agreement.{Ready, Steady};
 ghost use Rattle.envy_flush.specs.Counts.{Counting};

@@ -1,9 +1,8 @@
 -- What installing an image does to a board.
 use Rattle.std.specs.Prelude.{◌≡◌, ◌⊎◌, ℕ, ◌+◌, ◌-◌, ◌*◌, ◌/◌, ◌^◌, ◌<◌, ◌≤◌, min, max, false, IsTrue, List, length, take, ◌++◌, slice_index, Result, Ok, Err}
-use Rattle.envy_base.specs.Counting.{up}
+use Rattle.envy_base.specs.Counting.{Rose, up}
 use Rattle.envy_base.specs.Map.{words_of}
 use Rattle.envy_base.specs.State.{State, IsOnes, IsPage, row_of}
-use Rattle.envy_base.specs.Words.{Rose}
 use Rattle.envy_base.specs.declared.board.Off.{Off}
 use Rattle.envy_base.specs.declared.board.Trouble.{Trouble}
 use Rattle.envy_base.specs.declared.shape.Shape.{Shape}

@@ -3,7 +3,8 @@ use Rattle.std.proofs.Common.{◌≡◌, ◌⊎◌, inl, inr, ℕ, ◌+◌, ◌*
 use Rattle.std.specs.Prelude.{Result, Ok, Err, Option}
 use Rattle.std.proofs.lemmas.Bool.{cases_lt}
 use Rattle.std.proofs.lemmas.List.{drop-drop, length-map, take-append-drop}
-use Rattle.envy_base.specs.Words.{Sheet, IsSheet, Works, Keeps, Spends, Undoes, Rose, Fails}
+use Rattle.envy_array.specs.Words.{Sheet, IsSheet, Works, Keeps, Spends, Undoes, Fails}
+use Rattle.envy_base.specs.Counting.{Rose}
 use Rattle.envy_base.specs.declared.board.Off.{Off as OffNow}
 use Rattle.envy_base.specs.declared.board.Trouble.{Trouble}
 use Rattle.envy_base.specs.declared.board.Trouble.TheVariants.{Off as TroubleOff, Bad as TroubleBad}

@@ -3,8 +3,9 @@ use Rattle.std.proofs.Common.{◌≡◌, ◌≢◌, ◌⊎◌, inl, inr, ℕ, �
 use Rattle.std.specs.Prelude.{◌&&◌, IsTrue, IfOk, Option, None, Some, Result, Ok, Err, replicate}
 use Rattle.std.specs.Option.{ForSome}
 use Rattle.std.proofs.lemmas.List.{ext_get_or, length-replicate, get_or-replicate}
-use Rattle.envy_base.specs.Array.{Array, Saved, IsArray, slot_of}
-use Rattle.envy_base.specs.Words.{Sheet, Works as SheetWorks, Spends, Keeps, Rose}
+use Rattle.envy_array.specs.Array.{Array, Saved, IsArray, slot_of}
+use Rattle.envy_array.specs.Words.{Sheet, Works as SheetWorks, Spends, Keeps}
+use Rattle.envy_base.specs.Counting.{Rose}
 use Rattle.envy_base.specs.declared.board.Trouble.{Trouble}
 use Rattle.envy_base.specs.declared.board.Trouble.TheVariants.{Off as TroubleOff, Bad as TroubleBad}
 use Rattle.envy_base.specs.declared.page.TheConstants.{PAGE_WORDS}
@@ -19,7 +20,7 @@ use Rattle.envy_btree.specs.declared.fault.TreeFault.{TreeFault}
 use Rattle.envy_btree.specs.declared.fault.TreeFault.TheVariants.{Off as FaultOff, Full as FaultFull, Bad as FaultBad}
 use Rattle.envy_btree.proofs.Felling.{without-missing}
 use Rattle.envy_layout.proofs.WordLists.{length-durable}
-use Rattle.envy_layout.specs.Stands.{Holds, Stands, slot_word}
+use Rattle.envy_meaning.specs.Stands.{Holds, Stands, slot_word}
 use Rattle.envy_layout.specs.Words.{durable}
 use Rattle.envy_map.specs.Fields.{Chart, slot}
 use Rattle.envy_memory.specs.Lawful.{words_long}

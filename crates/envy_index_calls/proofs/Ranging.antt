@@ -6,11 +6,11 @@ use Rattle.std.proofs.Math.Logic.{∥∥₁_elim, ∥∥₁_map}
 use Rattle.std.proofs.Props.{props}
 use Rattle.std.proofs.lemmas.Bool.{cases_eq}
 use Rattle.std.proofs.lemmas.List.{ext_get_or, length-map, length-replicate, get_or-replicate}
-use Rattle.envy_base.specs.Array.{Array, Saved, IsArray, slot_of}
+use Rattle.envy_array.specs.Array.{Array, Saved, IsArray, slot_of}
 use Rattle.envy_base.specs.Shape.{version_of}
 use Rattle.envy_base.specs.declared.fields.Slot.TheVariants.{Active, Vacant}
 use Rattle.envy_base.specs.declared.page.TheConstants.{PAGE_WORDS}
-use Rattle.envy_layout.specs.Stands.{Holds, Stands, slot_word}
+use Rattle.envy_meaning.specs.Stands.{Holds, Stands, slot_word}
 use Rattle.envy_layout.specs.Words.{live, durable}
 use Rattle.envy_map.specs.Fields.{Chart, slot}
 use Rattle.envy_memory.specs.Calls.{fresh}

@@ -2,7 +2,8 @@
 use Rattle.std.proofs.Common.{◌≡◌, ◌≢◌, ◌⊎◌, inl, inr, ℕ, ◌+◌, ◌*◌, ◌-◌, ◌<◌, ◌≤◌, Bool, true, false, IsTrue, List, [], ◌∷◌, length, map, refl, sym, ◌∙◌, ap, subst, arith}
 use Rattle.std.specs.Prelude.{◌&&◌, Option, None, Some, Result, Ok, Err, OnOk}
 use Rattle.std.specs.Option.{ForSome}
-use Rattle.envy_base.specs.Words.{IsSheet, Sheet, Spends, Works as SheetWorks, Rose, Starts as SheetStarts, Finishes, Undoes, Keeps as SheetKeeps}
+use Rattle.envy_array.specs.Words.{IsSheet, Sheet, Spends, Works as SheetWorks, Starts as SheetStarts, Finishes, Undoes, Keeps as SheetKeeps}
+use Rattle.envy_base.specs.Counting.{Rose}
 use Rattle.envy_base.specs.declared.board.Off.{Off as OffNow}
 use Rattle.envy_base.specs.declared.page.TheConstants.{PAGE_WORDS}
 use Rattle.envy_layout.specs.Words.{live, durable}

@@ -1,14 +1,15 @@
 -- What the calls of a map answer by a code, and what they leave. The map is the whole array's: it is what the committed
 -- words of the memory stand for, as an index tree.
 use Rattle.std.specs.Prelude.{◌≡◌, ◌≢◌, ◌⊎◌, ℕ, zero, suc, ◌+◌, ◌*◌, ◌<◌, ◌≤◌, Bool, true, false, IsTrue, List, [], length, replicate, slice_set, sum, Option, None, Some, Result, Ok, Err}
-use Rattle.envy_base.specs.Array.{Array}
-use Rattle.envy_base.specs.Words.{Sheet, Rose}
+use Rattle.envy_array.specs.Array.{Array}
+use Rattle.envy_array.specs.Words.{Sheet}
+use Rattle.envy_base.specs.Counting.{Rose}
 use Rattle.envy_base.specs.declared.board.Trouble.{Trouble}
 use Rattle.envy_base.specs.declared.board.Trouble.TheVariants.{Off as TroubleOff, Bad as TroubleBad}
 use Rattle.envy_base.specs.declared.fields.Slot.TheVariants.{Active}
 use Rattle.envy_base.specs.declared.page.TheConstants.{PAGE_WORDS}
 use Rattle.envy_map.specs.Fields.{Chart, slot as slot_of}
-use Rattle.envy_layout.specs.Stands.{Stands}
+use Rattle.envy_meaning.specs.Stands.{Stands}
 use Rattle.envy_layout.specs.Words.{durable}
 use Rattle.envy_memory.specs.Below.{flush_programs, flush_erases}
 use Rattle.envy_memory.specs.Calls.{fresh}

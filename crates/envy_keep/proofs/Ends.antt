@@ -4,7 +4,7 @@ use Rattle.std.specs.Prelude.{IsTrue, Ok, Err, if◌then◌else◌}
 use Rattle.std.proofs.Math.Logic.{∥∥₁_map}
 use Rattle.std.proofs.lemmas.Bool.{false≢true}
 use Rattle.envy_base.specs.State.{SyncNote}
-use Rattle.envy_base.specs.Array.{Array, undone}
+use Rattle.envy_array.specs.Array.{Array, undone}
 use Rattle.envy_base.specs.declared.board.Off.{Off}
 use Rattle.envy_base.specs.declared.shape.Shape.{Shape}
 use Rattle.envy_begun.proofs.Opening.{IsGood, opens-as}
@@ -13,7 +13,7 @@ use Rattle.envy_disk.specs.Disk.{SyncsChart, with_sync}
 use Rattle.envy_journal.specs.Head.{StandsFor}
 use Rattle.envy_journal.specs.Reading.{operations}
 use Rattle.envy_synced.specs.Disk.{IsLast, IsSynced, Reopens}
-use Rattle.envy_layout.specs.Stands.{Holds, Stands}
+use Rattle.envy_meaning.specs.Stands.{Holds, Stands}
 use Rattle.envy_layout.specs.Words.{durable}
 use Rattle.envy_map.specs.Fields.{Chart, failed}
 use Rattle.envy_memory.specs.Picture.{Picture}

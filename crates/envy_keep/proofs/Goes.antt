@@ -3,7 +3,7 @@ use Rattle.std.proofs.Common.{◌≡◌, ◌⊎◌, inl, inr, ℕ, false, List, 
 use Rattle.std.specs.Prelude.{IsTrue, Result, Ok, Err}
 use Rattle.std.proofs.lemmas.Bool.{false≢true}
 use Rattle.envy_base.specs.State.{SyncNote}
-use Rattle.envy_base.specs.Array.{Array, restarted}
+use Rattle.envy_array.specs.Array.{Array, restarted}
 use Rattle.envy_base.specs.declared.board.Off.{Off}
 use Rattle.envy_base.specs.declared.shape.Shape.{Shape}
 use Rattle.envy_begun.proofs.Begins.{told-stands}
@@ -14,7 +14,7 @@ use Rattle.envy_io.specs.Lines.{newline}
 use Rattle.envy_io.specs.Streams.{Drain, WritesAll, with_end}
 use Rattle.envy_io.proofs.WritesLemmas.{with_end-nil}
 use Rattle.envy_synced.specs.Disk.{IsLast, IsSynced}
-use Rattle.envy_layout.specs.Stands.{Holds, Stands, IsLost as LostOn}
+use Rattle.envy_meaning.specs.Stands.{Holds, Stands, IsLost as LostOn}
 use Rattle.envy_map.specs.Fields.{Chart, failed}
 use Rattle.envy_memory.specs.Picture.{IsMemory, Picture}
 use Rattle.envy_trace.specs.declared.line.Line.{Line}

@@ -2,7 +2,7 @@
 use Rattle.std.proofs.Common.{◌≡◌, ℕ, Bool, false, List, refl, sym, ◌∙◌, ap, subst, arith}
 use Rattle.std.specs.Prelude.{IsTrue, Ok}
 use Rattle.envy_args.specs.declared.keep.KeepOptions.{KeepOptions}
-use Rattle.envy_base.specs.Array.{Array}
+use Rattle.envy_array.specs.Array.{Array}
 use Rattle.envy_base.specs.declared.shape.Shape.{Shape}
 use Rattle.envy_begun.specs.Beginning.{HasBegun, HasOperationsOf, HasStopped}
 use Rattle.envy_begun.specs.Left.{Leaves}
@@ -14,7 +14,7 @@ use Rattle.envy_begun.specs.declared.unbegun.Unbegun.{Unbegun}
 use Rattle.envy_begun.proofs.Caused.{stopped-unserved}
 use Rattle.envy_device.specs.Device.{Only}
 use Rattle.envy_io.specs.Streams.{Drain, Feed}
-use Rattle.envy_layout.specs.Stands.{Stands}
+use Rattle.envy_meaning.specs.Stands.{Stands}
 use Rattle.envy_memory.specs.Picture.{IsMemory, Picture}
 use Rattle.envy_policy.specs.Setup.{checked}
 use Rattle.envy_policy.specs.declared.setup.Setup.{Setup}

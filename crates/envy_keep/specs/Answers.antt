@@ -1,10 +1,10 @@
 -- What answering a line of a kept memory's trace does, power being on at entry.
 use Rattle.std.specs.Prelude.{◌≡◌, ◌⊎◌, ◌↔◌, ℕ, false, List, [], ◌∷◌}
 use Rattle.envy_base.specs.State.{SyncNote}
-use Rattle.envy_base.specs.Array.{Array}
+use Rattle.envy_array.specs.Array.{Array}
 use Rattle.envy_disk.specs.Disk.{with_sync}
 use Rattle.envy_synced.specs.Disk.{IsSynced}
-use Rattle.envy_layout.specs.Stands.{Stands}
+use Rattle.envy_meaning.specs.Stands.{Stands}
 use Rattle.envy_map.specs.Fields.{failed}
 use Rattle.envy_memory.specs.Picture.{Picture}
 use Rattle.envy_trace.specs.declared.line.Line.{Line}

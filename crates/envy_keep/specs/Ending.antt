@@ -1,7 +1,7 @@
 -- What holds at the end of a kept memory's trace, and which array each crash of the machine leaves.
 use Rattle.std.specs.Prelude.{◌≡◌, ◌⊎◌, ℕ, ◌≤◌, List, [], ◌∷◌}
 use Rattle.envy_base.specs.State.{SyncNote}
-use Rattle.envy_base.specs.Array.{Array, undone}
+use Rattle.envy_array.specs.Array.{Array, undone}
 use Rattle.envy_base.specs.declared.shape.Shape.{Shape}
 use Rattle.envy_begun.specs.Opens.{OpensAs}
 use Rattle.envy_disk.specs.Disk.{with_sync}

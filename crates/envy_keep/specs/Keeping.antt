@@ -1,7 +1,7 @@
 -- What is served of the memory in a file.
 use Rattle.std.specs.Prelude.{◌≡◌, ◌⊎◌, ℕ, Bool, false, IsTrue, List, Ok}
 use Rattle.envy_args.specs.declared.keep.KeepOptions.{KeepOptions}
-use Rattle.envy_base.specs.Array.{Array}
+use Rattle.envy_array.specs.Array.{Array}
 use Rattle.envy_begun.specs.declared.planning.Holding.{Holding}
 use Rattle.envy_begun.specs.declared.planning.Holding.TheVariants.{Written}
 use Rattle.envy_begun.specs.declared.unbegun.Unbegun.{Unbegun}
@@ -9,7 +9,7 @@ use Rattle.envy_begun.specs.Beginning.{HasOperationsOf}
 use Rattle.envy_begun.specs.Left.{Leaves, Stays}
 use Rattle.envy_begun.specs.Plans.{BeginsAs, BeginsOn, ComesLater, Plans}
 use Rattle.envy_begun.specs.Unserved.{Causes, place_for, status_for, why_for}
-use Rattle.envy_layout.specs.Stands.{Stands}
+use Rattle.envy_meaning.specs.Stands.{Stands}
 use Rattle.envy_memory.specs.Formats.{IsStarted}
 use Rattle.envy_memory.specs.Picture.{Picture}
 use Rattle.envy_policy.specs.Setup.{checked}

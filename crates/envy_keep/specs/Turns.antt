@@ -1,6 +1,6 @@
 -- What the plain array answers to the lines of a kept memory's trace, power staying on.
 use Rattle.std.specs.Prelude.{◌≡◌, ◌⊎◌, ℕ, Bool, true, false, List, [], ◌∷◌, ◌++◌, if◌then◌else◌}
-use Rattle.envy_base.specs.Array.{Array, restarted}
+use Rattle.envy_array.specs.Array.{Array, restarted}
 use Rattle.envy_io.specs.Lines.{newline}
 use Rattle.envy_trace.specs.declared.line.Line.TheVariants.{Empty}
 use Rattle.envy_trace.specs.declared.reply.Reply.{Reply}

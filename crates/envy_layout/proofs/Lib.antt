@@ -4,7 +4,6 @@ pub mod Claimed
 pub mod Clearing
 pub mod Composition
 pub mod Empty
-pub mod Ending
 pub mod EraseLaw
 pub mod Erased
 pub mod Filling
@@ -17,12 +16,10 @@ pub mod KeptLemmas
 pub mod KeptRows
 pub mod Laying
 pub mod NamingLemmas
-pub mod Owners
 pub mod PartedLemmas
 pub mod PlaceLaw
 pub mod PositionLaw
 pub mod ProgramLaw
-pub mod Putting
 pub mod RangeSums
 pub mod Ranks
 pub mod References
@@ -32,7 +29,6 @@ pub mod RetireLaw
 pub mod Sames
 pub mod SlotLaw
 pub mod SpareLemmas
-pub mod Standing
 pub mod SwitchLaw
 pub mod Tallies
 pub mod UndoLaw

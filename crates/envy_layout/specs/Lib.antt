@@ -9,16 +9,12 @@ pub mod PageRows
 pub mod Power
 pub mod RowKinds
 pub mod Sound
-pub mod Stands
-pub mod Transactions
 pub mod Upgrading
 pub mod Words
-pub use Rattle.envy_base.specs.Array
 pub use Rattle.envy_base.specs.Counting
 pub use Rattle.envy_base.specs.Map
 pub use Rattle.envy_base.specs.Shape
 pub use Rattle.envy_base.specs.State
-pub use Rattle.envy_base.specs.Step
 pub use Rattle.envy_map.specs.Codes
 pub use Rattle.envy_map.specs.Fields
 pub use Rattle.envy_map.specs.Writes

@@ -24,7 +24,6 @@ mod programming;
 mod retiring;
 mod rows;
 mod slots;
-mod transactions;
 mod upgrading;
 
 pub use claiming::{claim_back, note_origin, raise_fill};
@@ -44,8 +43,4 @@ pub use programming::program_row;
 pub use retiring::{close_spare, retire_spare};
 pub use rows::{Kept, keeper, program_counted, words_of_row};
 pub use slots::{commit_slot, set_unused_slot};
-pub use transactions::{
-    a_commit_is_that_of_the_array, a_slot_opens_as_in_the_array, an_abort_is_that_of_the_array,
-    owners_are_those_of_the_array, puts_are_those_of_the_array,
-};
 pub use upgrading::upgrade;

@@ -10,7 +10,7 @@ use Rattle.envy_base.specs.declared.shape.Shape.{Shape}
 use Rattle.envy_map.specs.Fields.{Chart, slot}
 use Rattle.envy_layout.specs.Same.{SameDurable, SameWords, Commits, Counted, Wears}
 use Rattle.envy_layout.specs.Sound.{IsSound, Sound, Slots}
-use Rattle.envy_layout.specs.Transactions.{Closes}
+use Rattle.envy_meaning.specs.Transactions.{Closes}
 use Rattle.envy_layout.proofs.Composition.{Counted-refl, Wears-refl}
 use Rattle.envy_table.specs.Hits.{Rests}
 use Rattle.envy_txn.specs.Owners.{Ownership}

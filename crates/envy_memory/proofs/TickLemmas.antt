@@ -1,14 +1,14 @@
 -- What holds of a memory after a background step.
 use Rattle.std.proofs.Common.{◌≡◌, inl, inr, false, ℕ, refl, arith}
 use Rattle.std.specs.Prelude.{IsTrue, Result, Ok, Err, IsErrOf, ◌↔◌}
-use Rattle.envy_base.specs.Array.{Array}
-use Rattle.envy_base.specs.Step.{Tick, Done}
+use Rattle.envy_array.specs.Array.{Array}
+use Rattle.envy_array.specs.Step.{Tick, Done}
 use Rattle.envy_base.specs.declared.board.Trouble.{Trouble}
 use Rattle.envy_base.specs.declared.board.Trouble.TheVariants.{Off as TroubleOff, Bad as TroubleBad}
 use Rattle.envy_map.specs.Fields.{Chart}
 use Rattle.envy_layout.specs.Same.{Same, Stays, Counted}
-use Rattle.envy_layout.specs.Stands.{Stands, IsLost}
-use Rattle.envy_layout.proofs.Standing.{Stands-same, IsLost-same}
+use Rattle.envy_meaning.specs.Stands.{Stands, IsLost}
+use Rattle.envy_meaning.proofs.Standing.{Stands-same, IsLost-same}
 use Rattle.envy_layout.proofs.Composition.{Counted-more}
 use Rattle.envy_policy.specs.declared.choice.Choice.{Choice}
 use Rattle.envy_policy.specs.declared.choice.Choice.TheVariants.{Free, Clean}

@@ -5,7 +5,7 @@ use Rattle.envy_base.specs.State.{State}
 use Rattle.envy_map.specs.Fields.{Chart, chart, with_fields, IsFormatted, shape_of}
 use Rattle.envy_layout.specs.Same.{Kept}
 use Rattle.envy_layout.specs.Sound.{IsSound}
-use Rattle.envy_layout.specs.Stands.{Stands}
+use Rattle.envy_meaning.specs.Stands.{Stands}
 use Rattle.envy_layout.specs.Upgrading.{upgraded}
 use Rattle.envy_layout.specs.Words.{durable}
 use Rattle.envy_flush.specs.Restarts.{IsRestarted}

@@ -1,12 +1,12 @@
 -- A memory with one transaction at a time, as words.
 use Rattle.std.specs.Prelude.{◌≡◌, ℕ, ◌&&◌, Bool, true, false, List, [], ◌∷◌, map, sum, replicate, Option, None, Some}
-use Rattle.envy_base.specs.Array.{Array, Saved}
-use Rattle.envy_base.specs.Words.{Sheet, Work}
+use Rattle.envy_array.specs.Array.{Array, Saved}
+use Rattle.envy_array.specs.Words.{Sheet, Work}
 use Rattle.envy_base.specs.declared.faults.PlannedFault.{PlannedFault}
 use Rattle.envy_base.specs.declared.faults.PlannedFault.TheVariants.{Cut, Bad}
 use Rattle.envy_base.specs.declared.shape.Shape.{Shape}
 use Rattle.envy_map.specs.Fields.{Chart}
-use Rattle.envy_layout.specs.Stands.{Stands}
+use Rattle.envy_meaning.specs.Stands.{Stands}
 use Rattle.envy_layout.specs.Words.{live, durable}
 use Rattle.envy_memory.specs.Below.{flush_programs, flush_erases}
 use Rattle.envy_memory.specs.Picture.{Picture}

@@ -1,8 +1,8 @@
 ghost use Rattle.std.specs.Prelude.{◌≡◌, ◌↔◌, ◌-◌, ◌^◌, ◌<◌, ◌≤◌, ◌⊎◌, true, false, IsTrue, OnOk, length, MatchResult, Ok, Err};
-ghost use Rattle.envy_base.specs.Array.{Array, undone};
+ghost use Rattle.envy_array.specs.Array.{Array, undone};
 ghost use Rattle.envy_layout.specs.Same.{Kept};
 ghost use Rattle.envy_layout.specs.Sound.{IsSound};
-ghost use Rattle.envy_layout.specs.Stands.{Stands};
+ghost use Rattle.envy_meaning.specs.Stands.{Stands};
 ghost use Rattle.envy_layout.specs.Words.{durable};
 ghost use Rattle.envy_memory.specs.Calls.{fresh, lit, planned, pulled};
 ghost use Rattle.envy_memory.specs.Picture.{counts_of};

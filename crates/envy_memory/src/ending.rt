@@ -1,6 +1,6 @@
 ghost use Rattle.std.specs.Prelude.{◌≡◌, ◌≢◌, ◌↔◌, false, MatchResult, Ok, Err};
-ghost use Rattle.envy_base.specs.Array.{Array};
-ghost use Rattle.envy_layout.specs.Stands.{Stands};
+ghost use Rattle.envy_array.specs.Array.{Array};
+ghost use Rattle.envy_meaning.specs.Stands.{Stands};
 ghost use Rattle.envy_memory.specs.Below.{BeginsBelow, CommitsBelow, AbortsBelow, IsBusy, IsShut};
 ghost use Rattle.envy_memory.specs.Calls.{Begins, Commits, Aborts, IsCut, Undisturbed};
 ghost use Rattle.envy_memory.specs.Opened.{IsFirstOpen};

@@ -1,10 +1,10 @@
 ghost use Rattle.std.specs.Prelude.{◌≡◌, ◌↔◌, ◌*◌, ◌≤◌, ◌<◌, ◌/◌, false, IsTrue, OnOk, MatchResult, slice_index, [], replicate, None};
-ghost use Rattle.envy_base.specs.Array.{Array};
+ghost use Rattle.envy_array.specs.Array.{Array};
 ghost use Rattle.envy_base.specs.Shape.{IsShape, version_of};
 ghost use Rattle.envy_map.specs.Codes.{the_magic};
 ghost use Rattle.envy_map.specs.Fields.{chart};
 ghost use Rattle.envy_layout.specs.Sound.{IsSound};
-ghost use Rattle.envy_layout.specs.Stands.{Stands};
+ghost use Rattle.envy_meaning.specs.Stands.{Stands};
 ghost use Rattle.envy_layout.specs.Words.{durable};
 ghost use Rattle.envy_memory.specs.Calls.{Loads, Looks};
 ghost use Rattle.envy_memory.specs.Below.{LoadsBelow, IsPast};
@@ -12,7 +12,8 @@ ghost use Rattle.envy_memory.specs.Picture.{IsMemory, counts_of, state_in};
 
 use crate::faults::LoadFault;
 use crate::looking::kept_place;
-use envy_base::{Board, Counts, PAGE_WORDS};
+use envy_array::Counts;
+use envy_base::{Board, PAGE_WORDS};
 use envy_flush::{Parts, word};
 use envy_txn::Owned;
 use std::marker::Model;

@@ -1,9 +1,9 @@
 ghost use Rattle.std.specs.Prelude.{◌≡◌, ◌↔◌, ◌⊎◌, ◌+◌, ◌*◌, ◌-◌, ◌^◌, ◌<◌, ◌≤◌, false, true, length, IsTrue, OnOk, MatchResult, [], replicate, None, Ok, Err};
-ghost use Rattle.envy_base.specs.Array.{Array};
+ghost use Rattle.envy_array.specs.Array.{Array};
 ghost use Rattle.envy_base.specs.Shape.{IsShape, version_of};
 ghost use Rattle.envy_base.specs.declared.page.TheConstants.{PAGE_WORDS};
 ghost use Rattle.envy_layout.specs.Same.{Kept};
-ghost use Rattle.envy_layout.specs.Stands.{Stands};
+ghost use Rattle.envy_meaning.specs.Stands.{Stands};
 ghost use Rattle.envy_layout.specs.Words.{durable};
 ghost use Rattle.envy_map.specs.Codes.{the_magic};
 ghost use Rattle.envy_memory.specs.Calls.{fresh, lit, planned, pulled};
@@ -14,7 +14,8 @@ ghost use Rattle.envy_memory.specs.Sheets.{IsHeld, sheet_of};
 
 use crate::faults::{BeginFault, EndFault, LoadFault, PutFault, ReviveFault};
 use crate::memory::Memory;
-use envy_base::{Bench, Board, Off, PAGE_WORDS, PlannedFault, Trouble, Words};
+use envy_array::Words;
+use envy_base::{Bench, Board, Off, PAGE_WORDS, PlannedFault, Trouble};
 
 /// A memory with one transaction at a time, which has the first slot.
 pub struct OneTx<B: Board> {

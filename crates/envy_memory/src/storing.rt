@@ -1,6 +1,6 @@
 ghost use Rattle.std.specs.Prelude.{◌≡◌, ◌≢◌, ◌↔◌, ℕ, false, IsErrOf, Ok, Err};
-ghost use Rattle.envy_base.specs.Array.{Array};
-ghost use Rattle.envy_layout.specs.Stands.{Stands};
+ghost use Rattle.envy_array.specs.Array.{Array};
+ghost use Rattle.envy_meaning.specs.Stands.{Stands};
 ghost use Rattle.envy_memory.specs.Below.{StoresBelow, IsPast, IsOwned};
 ghost use Rattle.envy_memory.specs.Calls.{Stores, IsCut, HasFailed, Undisturbed};
 

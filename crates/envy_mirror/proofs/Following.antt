@@ -2,14 +2,14 @@
 use Rattle.std.proofs.Common.{◌≡◌, ◌≢◌, ◌⊎◌, inl, inr, ℕ, ◌*◌, ◌/◌, ◌<◌, Bool, true, false, List, length, get_or, set, replicate, Option, None, Some, Result, Ok, Err, sym, ◌∙◌, ap, subst, arith}
 use Rattle.std.proofs.lemmas.Bool.{cases_eq}
 use Rattle.std.proofs.lemmas.List.{ext_get_or, get_or-replicate, length-replicate, get_or-set_other, length-set}
-use Rattle.envy_base.specs.Array.{Array, Saved, owner, slot_of, undone}
+use Rattle.envy_array.specs.Array.{Array, Saved, owner, slot_of, undone}
 use Rattle.envy_base.specs.declared.shape.Shape.{Shape}
-use Rattle.envy_base.proofs.Total.{option_cases}
+use Rattle.envy_array.proofs.Total.{option_cases}
 use Rattle.envy_map.specs.Fields.{Chart}
-use Rattle.envy_layout.specs.Stands.{Stands, Holds, slot_word}
+use Rattle.envy_meaning.specs.Stands.{Stands, Holds, slot_word}
 use Rattle.envy_layout.specs.Words.{live, durable}
 use Rattle.envy_layout.proofs.WordLists.{length-live}
-use Rattle.envy_layout.proofs.Standing.{length-stands}
+use Rattle.envy_meaning.proofs.Standing.{length-stands}
 use Rattle.envy_memory.specs.Calls.{fresh}
 use Rattle.envy_mirror.specs.Catching.{Helps, NoneOpen, NoneStale, IsLowestStale, Copies}
 use Rattle.envy_mirror.specs.Mirroring.{AgreesBy, Agrees, Mirrors, Trails, IsFreshAt}

@@ -1,6 +1,6 @@
 ghost use Rattle.std.specs.Prelude.{◌≡◌, ◌&&◌, ◌/◌, false, IsTrue, Some, if◌then◌else◌};
-ghost use Rattle.envy_base.specs.Array.{Array};
-ghost use Rattle.envy_base.specs.Step.{Store, Begin, Put, Commit, Abort, Tick};
+ghost use Rattle.envy_array.specs.Array.{Array};
+ghost use Rattle.envy_array.specs.Step.{Store, Begin, Put, Commit, Abort, Tick};
 ghost use Rattle.envy_memory.specs.Below.{StoresBelow, PutsBelow, TicksBelow};
 ghost use Rattle.envy_mirror.specs.Asking.{Answers, TellsBoth, left_by, replied, heard, has_said, has_failed};
 ghost use Rattle.envy_mirror.specs.Pair.{is_good, IsSide};
@@ -11,7 +11,8 @@ use crate::calls::{AbortCall, BeginCall, CommitCall, PutCall, StoreCall, TickCal
 use crate::half::Half;
 use crate::mirror::Mirror;
 use crate::standing::Which;
-use envy_base::{Bench, Trouble, step_gives_one_answer};
+use envy_array::step_gives_one_answer;
+use envy_base::{Bench, Trouble};
 use envy_memory::{BeginFault, Did, EndFault, PutFault, StoreFault};
 
 fn has_answered<C: Call>(told: &Option<C::Told>) -> bool

@@ -1,5 +1,5 @@
 ghost use Rattle.std.specs.Prelude.{◌≡◌, ◌<◌, ◌≤◌, ◌^◌, false, IsTrue, length, MatchOption};
-ghost use Rattle.envy_base.specs.Array.{Array};
+ghost use Rattle.envy_array.specs.Array.{Array};
 ghost use Rattle.envy_mirror.specs.Catching.{CatchesUp, Helps, IsLowestOpen, NoneOpen, IsLowestStale, NoneStale};
 ghost use Rattle.envy_mirror.specs.Mirroring.{Mirrors};
 ghost use Rattle.envy_mirror.specs.Pair.{Side, IsSide, IsClosed, is_good};

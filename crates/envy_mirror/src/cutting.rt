@@ -1,5 +1,5 @@
 ghost use Rattle.std.specs.Prelude.{◌≡◌, ◌<◌, ◌≤◌, ℕ};
-ghost use Rattle.envy_base.specs.Array.{Array};
+ghost use Rattle.envy_array.specs.Array.{Array};
 ghost use Rattle.envy_mirror.specs.Mirroring.{Mirrors};
 ghost use Rattle.envy_mirror.specs.Reviving.{LeavesCut, cut_pair, plan_side, which};
 

@@ -1,7 +1,7 @@
 ghost use Rattle.std.specs.Prelude.{◌≡◌, ◌↔◌, ◌<◌, ◌/◌, false, OnOk, slice_index};
-ghost use Rattle.envy_base.specs.Array.{Array};
-ghost use Rattle.envy_base.specs.Step.{Load, Look};
-ghost use Rattle.envy_layout.specs.Stands.{Stands};
+ghost use Rattle.envy_array.specs.Array.{Array};
+ghost use Rattle.envy_array.specs.Step.{Load, Look};
+ghost use Rattle.envy_meaning.specs.Stands.{Stands};
 ghost use Rattle.envy_layout.specs.Words.{durable};
 ghost use Rattle.envy_memory.specs.Below.{IsPast};
 ghost use Rattle.envy_memory.specs.Calls.{Looks};

@@ -1,7 +1,7 @@
 -- What opening answers over a file that holds these bytes.
 use Rattle.std.specs.Prelude.{◌≡◌, ◌≢◌, ◌⊎◌, ℕ, false, List, Some, Ok}
 use Rattle.envy_args.specs.declared.keep.KeepOptions.{KeepOptions}
-use Rattle.envy_base.specs.Array.{Array}
+use Rattle.envy_array.specs.Array.{Array}
 use Rattle.envy_base.specs.declared.shape.ShapeFault.TheVariants.{Reserves}
 use Rattle.envy_begun.specs.Beginning.{HasBegun, HasOperationsOf}
 use Rattle.envy_begun.specs.Plans.{BeginsAs, BeginsOn, IsPlanned, Plans}

@@ -1,9 +1,9 @@
 -- A step by which one side follows the other, seen without the boards.
 use Rattle.std.proofs.Common.{◌≡◌, ◌≢◌, inl, inr, ℕ, ◌+◌, ◌-◌, ◌^◌, ◌<◌, ◌≤◌, Bool, true, false, List, [], ◌∷◌, Option, None, Some, refl, sym, ◌∙◌, ap, subst, arith}
 use Rattle.std.specs.Prelude.{Result, Ok, Err}
-use Rattle.envy_base.specs.Array.{Array, Saved, slot_of}
+use Rattle.envy_array.specs.Array.{Array, Saved, slot_of}
 use Rattle.envy_base.specs.declared.fields.Slot.TheVariants.{Vacant, Active}
-use Rattle.envy_layout.specs.Stands.{Stands, Holds, slot_word}
+use Rattle.envy_meaning.specs.Stands.{Stands, Holds, slot_word}
 use Rattle.envy_map.specs.Fields.{Chart, slot}
 use Rattle.envy_pair.proofs.Sides.{stands-good, neither}
 use Rattle.envy_mirror.specs.Catching.{Helps, Slips as SlipsBy, CatchesUp, CatchesBy as Catching, IsLowestOpen as LowestOpenSlot, NoneOpen as NoSlotOpen}

@@ -1,8 +1,8 @@
 -- What the calls of a pair answer to the lines of a trace.
 use Rattle.std.specs.Prelude.{◌≡◌, ℕ, ◌/◌, IsTrue, Result, Ok, Err}
-use Rattle.envy_base.specs.Array.{Array}
-use Rattle.envy_base.specs.Step.{Command}
-use Rattle.envy_base.specs.Step.{Load as DoLoad, Look as DoLook, Store as DoStore, Begin as DoBegin, Put as DoPut, Commit as DoCommit, Abort as DoAbort, Tick as DoTick}
+use Rattle.envy_array.specs.Array.{Array}
+use Rattle.envy_array.specs.Step.{Command}
+use Rattle.envy_array.specs.Step.{Load as DoLoad, Look as DoLook, Store as DoStore, Begin as DoBegin, Put as DoPut, Commit as DoCommit, Abort as DoAbort, Tick as DoTick}
 use Rattle.envy_memory.specs.Picture.{counts_of}
 use Rattle.envy_memory.specs.declared.faults.LoadFault.{LoadFault}
 use Rattle.envy_mirror.specs.Asking.{Answers}

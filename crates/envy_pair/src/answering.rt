@@ -1,8 +1,8 @@
 //! One line of a trace, as one call of the pair.
 
 ghost use Rattle.std.specs.Prelude.{◌≡◌, ◌<◌, ℕ, IfOk, Err};
-ghost use Rattle.envy_base.specs.Array.{Array};
-ghost use Rattle.envy_base.specs.Step.{Store, Begin, Put, Commit, Abort, Tick};
+ghost use Rattle.envy_array.specs.Array.{Array};
+ghost use Rattle.envy_array.specs.Step.{Store, Begin, Put, Commit, Abort, Tick};
 ghost use Rattle.envy_mirror.specs.Mirroring.{Mirrors};
 ghost use Rattle.envy_pair.specs.Hearing.{Commanded, Loaded, Looked, HearsLine, Hears, caught, line_beside};
 ghost use Rattle.envy_trace.specs.Mirror.{IsMirrorLine};

@@ -1,5 +1,5 @@
 ghost use Rattle.std.specs.Prelude.{◌≡◌, ◌<◌};
-ghost use Rattle.envy_base.specs.Array.{Array};
+ghost use Rattle.envy_array.specs.Array.{Array};
 ghost use Rattle.envy_mirror.specs.Mirroring.{Mirrors};
 
 use crate::answering::{Beside, answer};
@@ -48,7 +48,7 @@ impl<A: Bench, B: Bench> Pairing<A, B> {
 
 impl<A: Bench, B: Bench> Service for Pairing<A, B> {
     ghost use Rattle.std.specs.Prelude.{[], ◌<◌};
-    ghost use Rattle.envy_base.specs.Array.{Array};
+    ghost use Rattle.envy_array.specs.Array.{Array};
     ghost use Rattle.envy_mirror.specs.Mirroring.{Mirrors};
     ghost use Rattle.envy_pair.specs.MirrorRun.{mirror_grammar};
     ghost use Rattle.envy_pair.specs.Serving.{Start, MirroredSince, FellSince, IsReady, long_mirror, ready_since};

@@ -4,7 +4,7 @@ use Rattle.std.proofs.lemmas.List.{length-map}
 use Rattle.envy_base.specs.declared.board.Off.{Off}
 use Rattle.envy_base.specs.declared.board.Trouble.{Trouble}
 use Rattle.envy_base.specs.declared.board.Trouble.TheVariants.{Off as TroubleOff, Bad}
-use Rattle.envy_base.specs.Words.{Sheet, IsSheet, Works, Spends, OnPage, Keeps, Loads, Puts, Starts, Finishes, Undoes, has}
+use Rattle.envy_array.specs.Words.{Sheet, IsSheet, Works, Spends, OnPage, Keeps, Loads, Puts, Starts, Finishes, Undoes, has}
 use Rattle.envy_range.specs.Ranges.{inside, outside, page_in, within}
 use Rattle.envy_range.proofs.Paged.{own-put, page-fits, page-of, put-own, still-there}
 use Rattle.envy_range.specs.Lawful.{inside-long}

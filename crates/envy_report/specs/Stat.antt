@@ -1,6 +1,6 @@
 -- What the counters of a memory come to, and the line that shows them.
 use Rattle.std.specs.Prelude.{ℕ, ◌+◌, ◌*◌, ◌/◌, ◌==◌, if◌then◌else◌, List, ◌++◌, codes, decimal}
-use Rattle.envy_base.specs.declared.counts.Counts.{Counts}
+use Rattle.envy_array.specs.declared.counts.Counts.{Counts}
 
 -- the cost of cleaning, in hundredths: pages that cleaning wrote for each page flushed
 abbrev pub cost_of : Counts → ℕ

@@ -4,7 +4,7 @@ ghost use Rattle.envy_report.specs.Stat.{cost_of, stat_bytes};
 
 use crate::text::{push_number, push_text};
 use arrayvec::ArrayVec;
-use envy_base::Counts;
+use envy_array::Counts;
 
 /// The cost of cleaning in hundredths: how many pages the cleaner wrote for 100 pages flushed, rounded
 /// down, and 0 where none was flushed. The cleaning cost of the paper, times 100.

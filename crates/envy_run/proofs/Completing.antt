@@ -7,9 +7,9 @@ use Rattle.envy_args.specs.declared.command.Command.TheVariants.{Run, Plain, Tpc
 use Rattle.envy_args.specs.declared.command.WordsFault.{WordsFault}
 use Rattle.envy_args.specs.declared.command.WordsFault.TheVariants.{Form, Setup as Rule, Memory}
 use Rattle.envy_args.specs.Words.{Text, command_of}
-use Rattle.envy_base.specs.Array.{Array}
+use Rattle.envy_array.specs.Array.{Array}
 use Rattle.envy_base.specs.State.{State}
-use Rattle.envy_base.specs.declared.area.Area.{Area}
+use Rattle.envy_array.specs.declared.area.Area.{Area}
 use Rattle.envy_base.specs.declared.shape.Shape.{Shape}
 use Rattle.envy_gen.specs.Traces.{trace_bytes}
 use Rattle.envy_io.specs.Streams.{Drain, Feed}

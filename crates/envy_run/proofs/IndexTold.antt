@@ -6,7 +6,7 @@ use Rattle.envy_base.specs.declared.faults.PlannedFault.{PlannedFault}
 use Rattle.envy_base.specs.Shape.{IsShape, version_of}
 use Rattle.envy_base.specs.State.{State, IsMade}
 use Rattle.envy_base.proofs.Counting.{up-least, up-below}
-use Rattle.envy_base.proofs.Undoing.{undo_all-closed}
+use Rattle.envy_array.proofs.Undoing.{undo_all-closed}
 use Rattle.envy_base.specs.declared.shape.Shape.{Shape}
 use Rattle.envy_btree.specs.Grammar.{index_line_of}
 use Rattle.envy_btree.specs.Index.{IsIndex}
@@ -23,7 +23,7 @@ use Rattle.envy_io.specs.Streams.{Feed, Drain, Rises, WritesAll, with_end}
 use Rattle.envy_io.proofs.WritesLemmas.{with_end-with_end, with_end-nil}
 use Rattle.envy_layout.specs.Same.{Kept, Counted}
 use Rattle.envy_layout.specs.Sound.{IsSound}
-use Rattle.envy_layout.specs.Stands.{Stands, Holds}
+use Rattle.envy_meaning.specs.Stands.{Stands, Holds}
 use Rattle.envy_layout.specs.Words.{durable}
 use Rattle.envy_map.specs.Codes.{the_magic}
 use Rattle.envy_map.specs.Fields.{Chart, chart}

@@ -1,7 +1,7 @@
 -- A mirrored run where nothing goes wrong.
 use Rattle.std.proofs.Common.{◌≡◌, ◌⊎◌, inl, inr, ℕ, ◌<◌, false, List, [], ◌∷◌, refl, subst, arith}
 use Rattle.std.specs.Prelude.{Some}
-use Rattle.envy_base.specs.Array.{Array, zeros}
+use Rattle.envy_array.specs.Array.{Array, zeros}
 use Rattle.envy_mirror.specs.declared.standing.Which.{Which}
 use Rattle.envy_mirror.specs.declared.standing.Which.TheVariants.{First, Second}
 use Rattle.envy_pair.specs.Ending.{Boards, board_at, HasFallen}

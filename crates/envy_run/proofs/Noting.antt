@@ -3,7 +3,7 @@ use Rattle.std.proofs.Common.{◌≡◌, ◌⊎◌, inl, inr, ℕ, ◌≤◌, fa
 use Rattle.std.specs.Prelude.{IsTrue, Option, None, Some, IfSome, sum}
 use Rattle.envy_base.proofs.Counting.{up-least}
 use Rattle.envy_base.specs.Counting.{up, Tally}
-use Rattle.envy_base.specs.declared.counts.Counts.{Counts}
+use Rattle.envy_array.specs.declared.counts.Counts.{Counts}
 use Rattle.envy_flush.specs.Counts.{Counting, Tallies}
 use Rattle.envy_flush.specs.declared.parts.Parts.{Parts}
 use Rattle.envy_flush.specs.Ticks.{CountsTick}

@@ -4,11 +4,11 @@ use Rattle.std.specs.Prelude.{IsTrue, Option, Some, Result, Ok, Err, sum}
 use Rattle.std.proofs.lemmas.Bool.{cases_lt}
 use Rattle.std.proofs.Math.Seq.{take-append-add}
 use Rattle.std.proofs.lemmas.List.{take-append-le}
-use Rattle.envy_base.specs.Array.{Array, undone, restarted}
+use Rattle.envy_array.specs.Array.{Array, undone, restarted}
 use Rattle.envy_base.specs.Shape.{version_of}
 use Rattle.envy_base.proofs.Counting.{up-least, up-below}
 use Rattle.envy_base.specs.declared.faults.PlannedFault.{PlannedFault}
-use Rattle.envy_base.specs.Step.{Command, Lost as LostAs}
+use Rattle.envy_array.specs.Step.{Command, Lost as LostAs}
 use Rattle.envy_base.specs.declared.shape.Shape.{Shape}
 use Rattle.envy_flush.proofs.CountLemmas.{Tallies-trans}
 use Rattle.envy_io.specs.declared.source.Failed.{Failed}
@@ -20,7 +20,7 @@ use Rattle.envy_memory.proofs.Counted.{Tallies-stay, up-low}
 use Rattle.envy_memory.proofs.Stepped.{lost-fresh}
 use Rattle.envy_memory.specs.Picture.{Picture, counts_of}
 use Rattle.envy_layout.specs.Sound.{IsSound}
-use Rattle.envy_layout.specs.Stands.{Holds, Stands, IsLost as LostIn}
+use Rattle.envy_meaning.specs.Stands.{Holds, Stands, IsLost as LostIn}
 use Rattle.envy_layout.specs.Words.{durable}
 use Rattle.envy_memory.specs.Calls.{fresh, pulled}
 use Rattle.envy_memory.specs.Rises.{RoseBy, RoseOver}
@@ -40,7 +40,7 @@ use Rattle.envy_serve.specs.Streams.{Written, FrontWritten}
 use Rattle.envy_serve.specs.Turns.{texts, one_if}
 use Rattle.envy_serve.specs.Answering.{losable}
 use Rattle.envy_run.specs.Turns.{Replies, trace_grammar, is_power, plan_of, is_lost, is_fault, before_restart}
-use Rattle.envy_base.specs.declared.counts.Counts.{Counts}
+use Rattle.envy_array.specs.declared.counts.Counts.{Counts}
 use Rattle.envy_run.specs.Counters.{is_empty}
 use Rattle.envy_run.specs.Hits.{accessed}
 use Rattle.envy_run.specs.Spending.{Spends, programs_of, erases_of}

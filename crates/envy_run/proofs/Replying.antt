@@ -1,13 +1,13 @@
 -- The reply of a line, from what the call of the memory answered.
 use Rattle.std.proofs.Common.{◌≡◌, ◌⊎◌, inl, inr, ℕ, ◌+◌, ◌-◌, ◌^◌, ◌<◌, ◌≤◌, false, [], ◌∷◌, refl, sym, ap, subst, arith}
 use Rattle.std.specs.Prelude.{◌↔◌, IsTrue, Result, Ok}
-use Rattle.envy_base.specs.Array.{Array}
+use Rattle.envy_array.specs.Array.{Array}
 use Rattle.envy_base.specs.declared.faults.PlannedFault.{PlannedFault}
-use Rattle.envy_base.specs.Step.{Command, Answer}
+use Rattle.envy_array.specs.Step.{Command, Answer}
 use Rattle.envy_map.specs.Fields.{Chart}
 use Rattle.envy_layout.specs.Same.{Counted}
-use Rattle.envy_layout.specs.Stands.{Fails, Stands, Steps}
-use Rattle.envy_base.specs.declared.counts.Counts.{Counts}
+use Rattle.envy_meaning.specs.Stands.{Fails, Stands, Steps}
+use Rattle.envy_array.specs.declared.counts.Counts.{Counts}
 use Rattle.envy_memory.proofs.Counted.{up-low}
 use Rattle.envy_memory.specs.Calls.{HasFailed, IsCut, Works, planned}
 use Rattle.envy_memory.specs.Effects.{TicksOnce}

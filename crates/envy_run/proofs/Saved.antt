@@ -5,7 +5,7 @@ use Rattle.std.specs.Option.{option_map}
 use Rattle.envy_base.specs.State.{State}
 use Rattle.envy_io.specs.declared.source.Failed.{Failed}
 use Rattle.envy_io.specs.Streams.{Drain, Rises}
-use Rattle.envy_layout.specs.Stands.{Stands}
+use Rattle.envy_meaning.specs.Stands.{Stands}
 use Rattle.envy_map.specs.Fields.{Chart, chart}
 use Rattle.envy_pair.proofs.Writing.{told-none}
 use Rattle.envy_policy.specs.declared.setup.Setup.{Setup}

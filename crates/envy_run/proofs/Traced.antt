@@ -1,8 +1,8 @@
 -- What a memory did in a trace, from what it does in one line, and what its board's counts say then.
 use Rattle.std.proofs.Common.{◌≡◌, ◌⊎◌, inl, inr, ℕ, zero, suc, ◌+◌, ◌*◌, ◌-◌, ◌^◌, ◌<◌, ◌≤◌, Bool, List, [], ◌∷◌, length, refl, sym, ◌∙◌, ap, subst, arith}
 use Rattle.std.specs.Prelude.{IfSome, Option, None, Some, slice_index, sum}
-use Rattle.envy_base.specs.Array.{Array, zeros}
-use Rattle.envy_base.specs.declared.counts.Counts.{Counts}
+use Rattle.envy_array.specs.Array.{Array, zeros}
+use Rattle.envy_array.specs.declared.counts.Counts.{Counts}
 use Rattle.envy_base.specs.declared.shape.Shape.{Shape}
 use Rattle.envy_base.specs.State.{State, IsBoard, IsMade}
 use Rattle.std.proofs.Math.Nat.{mul-le-mul_left}
@@ -13,7 +13,7 @@ use Rattle.envy_io.specs.Streams.{Feed, Drain}
 use Rattle.envy_map.specs.Fields.{Chart, chart}
 use Rattle.envy_base.specs.Counting.{up, Tally}
 use Rattle.envy_flush.specs.Counts.{Tallies, Tally3}
-use Rattle.envy_layout.specs.Stands.{Stands}
+use Rattle.envy_meaning.specs.Stands.{Stands}
 use Rattle.envy_memory.proofs.Counted.{Tallies-stay, below-top}
 use Rattle.envy_memory.specs.Formats.{IsFresh, IsStarted, no_counts}
 use Rattle.envy_memory.specs.Picture.{Picture, counts_of}

@@ -1,12 +1,12 @@
 -- What answering a line does, power being on at entry.
 use Rattle.std.specs.Prelude.{◌≡◌, Some}
-use Rattle.envy_base.specs.Array.{Array}
+use Rattle.envy_array.specs.Array.{Array}
 use Rattle.envy_base.specs.declared.faults.PlannedFault.{PlannedFault}
 use Rattle.envy_base.specs.declared.faults.PlannedFault.TheVariants.{Cut as PlanCut, Bad as PlanBad}
-use Rattle.envy_base.specs.declared.counts.Counts.{Counts}
-use Rattle.envy_base.specs.Step.{Command}
+use Rattle.envy_array.specs.declared.counts.Counts.{Counts}
+use Rattle.envy_array.specs.Step.{Command}
 use Rattle.envy_map.specs.Fields.{Chart}
-use Rattle.envy_layout.specs.Stands.{Stands, IsLost as LostIn}
+use Rattle.envy_meaning.specs.Stands.{Stands, IsLost as LostIn}
 use Rattle.envy_trace.specs.declared.line.Line.{Line}
 use Rattle.envy_trace.specs.declared.line.Line.TheVariants.{Empty, Power, Cut, Bad}
 use Rattle.envy_trace.specs.declared.reply.Reply.{Reply}

@@ -1,7 +1,7 @@
 -- What the lines of a trace lead to, and when a board is left so.
 use Rattle.std.specs.Prelude.{◌≡◌, ℕ, false, List, [], ◌∷◌, Some}
 use Rattle.envy_base.specs.Shape.{version_of}
-use Rattle.envy_base.specs.Array.{Array}
+use Rattle.envy_array.specs.Array.{Array}
 use Rattle.envy_map.specs.Codes.{the_magic}
 use Rattle.envy_map.specs.Fields.{Chart}
 use Rattle.envy_layout.specs.Sound.{IsSound}

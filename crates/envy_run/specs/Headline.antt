@@ -7,14 +7,14 @@ use Rattle.envy_args.specs.declared.command.Command.TheVariants.{Run, Plain, Tpc
 use Rattle.envy_args.specs.declared.command.WordsFault.{WordsFault}
 use Rattle.envy_args.specs.declared.command.WordsFault.TheVariants.{Form, Setup as Rule, Memory}
 use Rattle.envy_args.specs.Words.{command_of}
-use Rattle.envy_base.specs.Array.{Array, zeros}
+use Rattle.envy_array.specs.Array.{Array, zeros}
 use Rattle.envy_base.specs.State.{State}
 use Rattle.envy_btree.specs.declared.line.IndexLine.{IndexLine}
 use Rattle.envy_btree.specs.declared.reply.IndexReply.{IndexReply}
 use Rattle.envy_gen.specs.Traces.{trace_bytes}
 use Rattle.envy_gen.specs.declared.mix.Mix.{Mix}
 use Rattle.envy_image.specs.Image.{image_of}
-use Rattle.envy_layout.specs.Stands.{Stands}
+use Rattle.envy_meaning.specs.Stands.{Stands}
 use Rattle.envy_map.specs.Fields.{Chart}
 use Rattle.envy_policy.specs.declared.setup.Setup.{Setup}
 use Rattle.envy_trace.specs.declared.line.Line.{Line}

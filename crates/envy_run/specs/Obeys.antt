@@ -1,12 +1,12 @@
 -- What doing one line does to the board and to what is written, from a board that stood for the array m.
 use Rattle.std.specs.Prelude.{◌≡◌, ◌⊎◌, ◌↔◌, false, List, [], ◌∷◌}
 use Rattle.envy_base.specs.Shape.{version_of}
-use Rattle.envy_base.specs.Array.{Array}
+use Rattle.envy_array.specs.Array.{Array}
 use Rattle.envy_map.specs.Codes.{the_magic}
 use Rattle.envy_map.specs.Fields.{Chart}
 use Rattle.envy_io.specs.Streams.{Drain}
 use Rattle.envy_layout.specs.Sound.{IsSound}
-use Rattle.envy_layout.specs.Stands.{Stands}
+use Rattle.envy_meaning.specs.Stands.{Stands}
 use Rattle.envy_layout.specs.Words.{durable}
 use Rattle.envy_trace.specs.declared.line.Line.{Line}
 use Rattle.envy_trace.specs.declared.reply.Reply.{Reply}
@@ -19,7 +19,7 @@ use Rattle.envy_run.specs.Below.{WorksOf}
 use Rattle.envy_run.specs.Licence.{Licence}
 use Rattle.envy_run.specs.Spending.{Spends, programs_of, erases_of}
 use Rattle.envy_run.specs.Tells.{Notes}
-use Rattle.envy_base.specs.declared.counts.Counts.{Counts}
+use Rattle.envy_array.specs.declared.counts.Counts.{Counts}
 use Rattle.envy_run.specs.Turns.{Does, FailsIn, before_restart, trace_grammar, is_power, plan_of, is_lost, is_fault}
 use Rattle.envy_serve.specs.Streams.{Written, FrontWritten}
 use Rattle.envy_serve.specs.Turns.{texts, one_if, count_of}

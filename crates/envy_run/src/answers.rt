@@ -1,6 +1,6 @@
 ghost use Rattle.std.specs.Prelude.{◌≡◌, ◌≢◌, ◌↔◌, List, [], ◌∷◌, false, IsTrue, IfOk, Ok, Err};
-ghost use Rattle.envy_base.specs.Array.{Array};
-ghost use Rattle.envy_layout.specs.Stands.{Stands};
+ghost use Rattle.envy_array.specs.Array.{Array};
+ghost use Rattle.envy_meaning.specs.Stands.{Stands};
 ghost use Rattle.envy_memory.specs.Picture.{counts_of};
 ghost use Rattle.envy_run.specs.Answers.{Answered, AnswersTo, AnswerLicence, line_beside, line_of_plan};
 ghost use Rattle.envy_run.specs.Below.{WorksOf, FollowsRules};

@@ -16,7 +16,7 @@ ghost use Rattle.envy_serve.specs.Streams.{streams_of};
 use crate::endings::{Ending, Finished, finished_with, unserved};
 use crate::restart::{ReplyBuffer, write_reply};
 use crate::trace_machine::read_any;
-use envy_base::Counts;
+use envy_array::Counts;
 use envy_io::{Failed, Lines, Sink, Source};
 use envy_plain::{Plain, Refusal};
 use envy_policy::Setup;
@@ -105,7 +105,7 @@ pub(crate) struct Calm {
 
 impl Service for Calm {
     ghost use Rattle.std.specs.Prelude.{⊤, []};
-    ghost use Rattle.envy_base.specs.Array.{Array};
+    ghost use Rattle.envy_array.specs.Array.{Array};
     ghost use Rattle.envy_run.specs.Calm.{HasDoneCalmly, NeverDies};
     ghost use Rattle.envy_run.specs.Tracing.{long_any};
     ghost use Rattle.envy_run.specs.Turns.{trace_grammar};

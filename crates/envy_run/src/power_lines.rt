@@ -1,8 +1,8 @@
 ghost use Rattle.std.specs.Prelude.{◌≡◌, IsTrue, List};
 ghost use Rattle.envy_run.specs.Turns.{TraceTurn};
-ghost use Rattle.envy_base.specs.Array.{Array};
+ghost use Rattle.envy_array.specs.Array.{Array};
 ghost use Rattle.envy_run.specs.Hits.{MayTell};
-ghost use Rattle.envy_layout.specs.Stands.{Stands};
+ghost use Rattle.envy_meaning.specs.Stands.{Stands};
 ghost use Rattle.envy_trace.specs.declared.line.Line.TheVariants.{Power};
 ghost use Rattle.envy_memory.specs.Picture.{Picture};
 ghost use Rattle.envy_run.specs.Obeys.{LineAnswers, ObeysLine};

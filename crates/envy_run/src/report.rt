@@ -9,7 +9,7 @@ ghost use Rattle.envy_run.specs.Drives.{named, report, sums_text};
 ghost use Rattle.envy_run.specs.Writing.{WritesOut};
 
 use arrayvec::ArrayVec;
-use envy_base::{Area, Counts};
+use envy_array::{Area, Counts};
 use envy_io::{Failed, Sink, write_all};
 use envy_report::{push_text, stat_text};
 use envy_tpca::Sums;

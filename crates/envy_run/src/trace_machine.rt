@@ -1,9 +1,9 @@
 //! A memory that answers the lines of a trace.
 
 ghost use Rattle.std.specs.Prelude.{◌≡◌, ℕ, List, [], IfOk, IsTrue};
-ghost use Rattle.envy_base.specs.Array.{Array};
+ghost use Rattle.envy_array.specs.Array.{Array};
 ghost use Rattle.envy_run.specs.Hits.{MayTell};
-ghost use Rattle.envy_layout.specs.Stands.{Stands};
+ghost use Rattle.envy_meaning.specs.Stands.{Stands};
 ghost use Rattle.envy_run.specs.Obeys.{ObeysLine};
 ghost use Rattle.envy_run.specs.Tells.{CanTell};
 ghost use Rattle.envy_run.specs.Turns.{TraceTurn};

@@ -8,7 +8,8 @@ use crate::steps::Step::{
     Abort, Begin, Counted, Cut, Flushes, IsOn, Load, PlanBad, PlanCut, Put, Revive, Store, Swaps,
     Tick, Ticks, Works,
 };
-use envy_base::{Counts, Job, Trouble};
+use envy_array::Counts;
+use envy_base::{Job, Trouble};
 use envy_memory::{LoadFault, PutFault, ReviveFault};
 
 const PAGE_0_FLUSHED: [Step; 2] = [Store(0, 1, Ok(())), FLUSHED];

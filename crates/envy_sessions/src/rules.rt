@@ -7,7 +7,8 @@ use crate::steps::Step::{
     Abort, Begin, Copies, Counted, Cut, Flushes, IsAt, Load, PlanBad, Put, Revive, Store, Tick,
     Works,
 };
-use envy_base::{Counts, Job, Place, Trouble};
+use envy_array::Counts;
+use envy_base::{Job, Place, Trouble};
 use envy_memory::Did;
 
 pub(crate) const FLUSHED: Step = Tick(Ok(Did::Flushed));

@@ -2,7 +2,8 @@
 
 use crate::ordered::OrderedBoard;
 use crate::told::{holds_at, same_at};
-use envy_base::{Board, Counts, Job, Off, Place, Trouble};
+use envy_array::Counts;
+use envy_base::{Board, Job, Off, Place, Trouble};
 use envy_map::{job, place};
 use envy_memory::{
     BeginFault, Did, EndFault, LoadFault, Memory, PutFault, ReviveFault, StoreFault,

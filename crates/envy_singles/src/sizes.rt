@@ -1,7 +1,8 @@
 //! Sizes that a board may have, and records that an array has room for.
 
 use crate::told::same_of;
-use envy_base::{Area, Shape, ShapeFault};
+use envy_array::Area;
+use envy_base::{Shape, ShapeFault};
 
 /// A shape of so many segments, rows, pages, shadows, frames and entries.
 fn shape(sizes: &[u32; 6]) -> Shape {

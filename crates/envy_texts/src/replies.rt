@@ -2,7 +2,7 @@
 
 use crate::told::{same, same_bytes};
 use arrayvec::ArrayVec;
-use envy_base::Counts;
+use envy_array::Counts;
 use envy_trace::{LineFault, Reply, reply_text};
 use std::process::Abort;
 

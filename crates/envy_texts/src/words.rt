@@ -2,7 +2,8 @@
 
 use crate::told::same;
 use envy_args::{Command, WordsFault, read_words};
-use envy_base::{Area, Shape};
+use envy_array::Area;
+use envy_base::Shape;
 use envy_gen::{Mix, Skew};
 use envy_policy::{Policy, Setup};
 use std::alloc::Global;

@@ -1,7 +1,7 @@
 -- All transfers of a load, one after another.
 use Rattle.std.specs.Prelude.{◌≡◌, ℕ, ◌^◌, ◌≤◌, Result, Ok, Err, ℤ}
-use Rattle.envy_base.specs.Area.{Fits}
-use Rattle.envy_base.specs.declared.area.Area.{Area}
+use Rattle.envy_array.specs.Area.{Fits}
+use Rattle.envy_array.specs.declared.area.Area.{Area}
 use Rattle.envy_layout.specs.Words.{durable}
 use Rattle.envy_memory.specs.Picture.{Picture}
 use Rattle.envy_tpca.specs.declared.fault.DriveFault.{DriveFault}

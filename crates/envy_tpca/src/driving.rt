@@ -1,9 +1,9 @@
 //! Driving a load.
 
 ghost use Rattle.std.specs.Prelude.{◌≡◌, ◌↔◌, ◌+◌, ◌*◌, ◌%◌, ◌^◌, ◌<◌, ◌≤◌, ℕ, false, IfOk, OnOk, Ok, Err, List, Some, if◌then◌else◌};
-ghost use Rattle.envy_base.specs.Area.{Fits};
-ghost use Rattle.envy_base.specs.Array.{Array, zeros, put_back};
-ghost use Rattle.envy_layout.specs.Stands.{Stands};
+ghost use Rattle.envy_array.specs.Area.{Fits};
+ghost use Rattle.envy_array.specs.Array.{Array, zeros, put_back};
+ghost use Rattle.envy_meaning.specs.Stands.{Stands};
 ghost use Rattle.envy_layout.specs.Words.{durable};
 ghost use Rattle.envy_memory.specs.Calls.{planned};
 ghost use Rattle.envy_tpca.specs.declared.places.Places.{Places as APlaces};
@@ -21,7 +21,8 @@ use crate::restart::{restart, tick_four_times};
 use crate::summing::{load_at, sum_balances, sum_history};
 use crate::trial::try_transfer;
 use crate::{DriveFault, Fault, Load, Places, Spots, Sums, Transfer};
-use envy_base::{Area, Bench};
+use envy_array::Area;
+use envy_base::Bench;
 use envy_memory::Memory;
 
 /// Tries transfer `i` until it is done, and ticks. After a restart address 0 tells whether it is done. Where power never

@@ -2,7 +2,7 @@
 use Rattle.std.proofs.Common.{◌≡◌, ℕ, ◌+◌, ◌-◌, ◌^◌, ◌<◌, ◌≤◌, true, false, IsTrue, List, [], length, replicate, take, ◌%◌, ap, sym, subst, ◌∙◌, inl, inr, Result, Ok, Err, IfOk, Option, arith}
 use Rattle.std.proofs.lemmas.List.{drop-replicate, length-replicate, take-replicate}
 use Rattle.envy_base.specs.declared.board.Off.{Off}
-use Rattle.envy_base.specs.Words.{Sheet, IsSheet, Finishes, Keeps}
+use Rattle.envy_array.specs.Words.{Sheet, IsSheet, Finishes, Keeps}
 use Rattle.envy_btree.specs.Answers.{Inserts, Removes, Gets}
 use Rattle.envy_btree.specs.Index.{IsIndex}
 use Rattle.envy_btree.specs.Pairs.{with_pair, without}

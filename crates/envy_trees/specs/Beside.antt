@@ -1,6 +1,6 @@
 -- Two maps in two ranges of one memory.
 use Rattle.std.specs.Prelude.{◌≡◌, ◌⊎◌, ℕ, ◌≤◌, false, List, length}
-use Rattle.envy_base.specs.Words.{Sheet}
+use Rattle.envy_array.specs.Words.{Sheet}
 use Rattle.envy_btree.specs.Index.{IsIndex}
 use Rattle.envy_range.specs.Ranges.{inside}
 

@@ -6,7 +6,7 @@ use crate::calls::{
     Pair, check_get, check_near, check_pairs, check_set, check_take_out, empty_index, nearest,
 };
 use crate::told::{same, same_at};
-use envy_base::Words;
+use envy_array::Words;
 use envy_btree::{LookFault, TreeFault};
 use envy_heap::VecWords;
 use rand_core::{Rng, SeedableRng};

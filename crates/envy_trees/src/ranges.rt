@@ -3,7 +3,8 @@ ghost use Rattle.envy_heap.specs.Vectors.{vec_sheet};
 ghost use Rattle.envy_trees.specs.Beside.{HasBoth, IsMap};
 
 use crate::told::same_at;
-use envy_base::{NoMemory, Words};
+use envy_array::Words;
+use envy_base::NoMemory;
 use envy_btree::{get, insert, remove};
 use envy_heap::VecWords;
 use envy_range::Within;

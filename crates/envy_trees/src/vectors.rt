@@ -1,5 +1,5 @@
 use crate::told::same;
-use envy_base::Words;
+use envy_array::Words;
 use envy_heap::VecWords;
 
 #[test]

@@ -4,7 +4,8 @@ ghost use Rattle.envy_heap.specs.Vectors.{vec_sheet};
 ghost use Rattle.envy_btree.specs.Testing.{IsReady};
 
 use crate::told::same_at;
-use envy_base::{NoMemory, Off, Trouble, Words};
+use envy_array::Words;
+use envy_base::{NoMemory, Off, Trouble};
 use envy_btree::{LookFault, TreeFault, get, insert, remove};
 use envy_heap::VecWords;
 use std::alloc::Global;

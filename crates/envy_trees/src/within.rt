@@ -1,7 +1,7 @@
 //! Changes within one transaction of the test, and a change that has no room in it.
 use crate::calls::empty_index;
 use crate::told::same;
-use envy_base::Words;
+use envy_array::Words;
 use envy_btree::{ChangeFault, count, insert_within, remove_within};
 
 #[test]

@@ -1,8 +1,8 @@
 //! Pairs over two boards in memory.
 
 ghost use Rattle.std.specs.Prelude.{◌≡◌};
-ghost use Rattle.envy_base.specs.Array.{zeros};
-ghost use Rattle.envy_layout.specs.Stands.{Stands};
+ghost use Rattle.envy_array.specs.Array.{zeros};
+ghost use Rattle.envy_meaning.specs.Stands.{Stands};
 
 use crate::calls::{Call, Made, SMALL, of_begin, of_end, of_put, of_store, of_tick};
 use envy_bench::MemBoard;

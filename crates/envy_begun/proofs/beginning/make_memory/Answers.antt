@@ -1,9 +1,9 @@
 use Rattle.std.proofs.Common.{◌∙◌, refl, subst}
-use Rattle.envy_base.specs.Array.{zeros}
+use Rattle.envy_array.specs.Array.{zeros}
 use Rattle.envy_base.specs.declared.shape.Shape.{Shape}
 use Rattle.envy_begun.proofs.Again.{unformatted-stopped}
 use Rattle.envy_begun.proofs.Fresh.{counts-last, format-leaves, off-refused}
-use Rattle.envy_layout.specs.Stands.{Stands}
+use Rattle.envy_meaning.specs.Stands.{Stands}
 use Rattle.envy_memory.specs.Formats.{CountsFormat, IsFresh, Makes}
 use Rattle.envy_begun.proofs.beginning.make_memory.Goals as goal
 

@@ -1,4 +1,4 @@
-use Rattle.envy_base.specs.Array.{zeros}
+use Rattle.envy_array.specs.Array.{zeros}
 use Rattle.envy_begun.proofs.Begins.{err-off, new-begun, still-fresh}
 use Rattle.envy_begun.proofs.Fresh.{sync-off}
 use Rattle.envy_begun.proofs.beginning.sync_first.Goals as goal

@@ -2,7 +2,7 @@ use Rattle.std.proofs.Common.{◌≡◌, refl, ap}
 use Rattle.envy_map.specs.Fields.{Chart, chart}
 use Rattle.envy_base.specs.declared.fields.Place.TheVariants.{Frame}
 use Rattle.envy_layout.specs.Same.{SameDurable}
-use Rattle.envy_layout.specs.Transactions.{PutDone}
+use Rattle.envy_meaning.specs.Transactions.{PutDone}
 use Rattle.envy_table.proofs.HitLemmas.{Rests-refl, Rests-retargeted}
 use Rattle.envy_flush.specs.Storing.{Near}
 use Rattle.envy_flush.proofs.Leaving.{leaves_off}

@@ -7,10 +7,10 @@ use Rattle.envy_base.specs.State.{IsBoard}
 use Rattle.envy_map.specs.Fields.{Chart, chart, with_fields}
 use Rattle.envy_map.specs.Writes.{with_place, with_undo}
 use Rattle.envy_layout.specs.Sound.{Sound, Slots}
-use Rattle.envy_layout.specs.Transactions.{Owns}
+use Rattle.envy_meaning.specs.Transactions.{Owns}
 use Rattle.envy_layout.proofs.Composition.{Same-refl, SameDurable-trans, SameDurable-words, SameDurable-dropped}
-use Rattle.envy_layout.proofs.Owners.{owned_by-owns}
-use Rattle.envy_layout.proofs.Putting.{PutDone-shadowed}
+use Rattle.envy_meaning.proofs.Owners.{owned_by-owns}
+use Rattle.envy_meaning.proofs.Putting.{PutDone-shadowed}
 use Rattle.envy_txn.specs.Owners.{Ownership, AreOwned}
 use Rattle.envy_flush.specs.Putting.{MayGive, undo_for}
 use Rattle.envy_flush.proofs.ElsewhereLemmas.{MayUndo-left, IsUndo-left, slot-left, Owns-left}

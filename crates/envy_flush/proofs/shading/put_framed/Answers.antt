@@ -17,8 +17,8 @@ use Rattle.envy_flush.specs.declared.parts.Parts.{Parts}
 use Rattle.envy_flush.proofs.CountLemmas.{Counting-still, wears-put}
 use Rattle.envy_flush.proofs.Leaving.{leaves_then}
 use Rattle.envy_flush.proofs.FlushLemmas.{bad-rises, err-at, GetsRow-after, StopsFor-gets}
-use Rattle.envy_layout.proofs.Owners.{owned_by-owns}
-use Rattle.envy_layout.proofs.Putting.{PutDone-more, PutDone-shadowed}
+use Rattle.envy_meaning.proofs.Owners.{owned_by-owns}
+use Rattle.envy_meaning.proofs.Putting.{PutDone-more, PutDone-shadowed}
 use Rattle.envy_layout.proofs.Composition.{Counted-put}
 use Rattle.envy_flush.proofs.PutLemmas.{MayGive-framed, Shadows-shape, PutFirst-shadow, PutFirst-dropped, Steady-word}
 use Rattle.envy_reloc.proofs.Exits.{unpowered, err-if, err-after, off-if, off-after, off-bad, ok-bad}

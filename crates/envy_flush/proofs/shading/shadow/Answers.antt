@@ -8,7 +8,7 @@ use Rattle.envy_layout.specs.Same.{Same, Stays, Framed}
 use Rattle.envy_layout.proofs.Composition.{SameWords-trans, SameWords-same}
 use Rattle.envy_flush.proofs.FlushLemmas.{err-at}
 use Rattle.envy_flush.proofs.Leaving.{leaves_then}
-use Rattle.envy_layout.proofs.Putting.{Owns-after}
+use Rattle.envy_meaning.proofs.Putting.{Owns-after}
 use Rattle.envy_flush.proofs.PutLemmas.{MayGive-framed}
 use Rattle.envy_flush.specs.Flushing.{Granted, IsFresh}
 use Rattle.envy_reloc.proofs.Exits.{err-if, err-after, off-if, off-after, off-bad, ok-bad}

@@ -4,7 +4,7 @@ use Rattle.envy_map.specs.Fields.{chart, undo}
 use Rattle.envy_layout.specs.Same.{Same, Stays, Framed}
 use Rattle.envy_layout.specs.Sound.{owned_by}
 use Rattle.envy_flush.proofs.Leaving.{leaves_then}
-use Rattle.envy_layout.proofs.Owners.{owned_by-framed}
+use Rattle.envy_meaning.proofs.Owners.{owned_by-framed}
 use Rattle.envy_flush.proofs.StoreLemmas.{Stored-after, Stored-more, Interrupted-after, Interrupted-more, Shadowed-after, Shadowed-more}
 use Rattle.envy_layout.proofs.WordPuts.{Dropped-after, Dropped-more}
 use Rattle.envy_base.specs.declared.board.Trouble.{Trouble}

@@ -1,5 +1,5 @@
 use Rattle.std.proofs.Common.{refl}
-use Rattle.envy_base.specs.Step.{Done as IsDone, Closed as IsClosed}
+use Rattle.envy_array.specs.Step.{Done as IsDone, Closed as IsClosed}
 use Rattle.envy_mirror.specs.Replies.{Off, Said}
 use Rattle.envy_pair.proofs.answering.abort.Goals as goal
 

@@ -1,5 +1,5 @@
 use Rattle.std.proofs.Common.{refl}
-use Rattle.envy_base.specs.Step.{Started as IsStarted, Busy as IsBusy}
+use Rattle.envy_array.specs.Step.{Started as IsStarted, Busy as IsBusy}
 use Rattle.envy_mirror.specs.Replies.{Off, Said}
 use Rattle.envy_pair.proofs.answering.begin.Goals as goal
 

@@ -1,5 +1,5 @@
 use Rattle.std.proofs.Common.{refl}
-use Rattle.envy_base.specs.Step.{Done as IsDone, Range as IsRange, Held as IsHeld}
+use Rattle.envy_array.specs.Step.{Done as IsDone, Range as IsRange, Held as IsHeld}
 use Rattle.envy_mirror.specs.Replies.{Off, Bad as WasBad, Said}
 use Rattle.envy_pair.proofs.answering.store.Goals as goal
 

@@ -1,5 +1,5 @@
 use Rattle.std.proofs.Common.{refl}
-use Rattle.envy_base.specs.Step.{Done as IsDone}
+use Rattle.envy_array.specs.Step.{Done as IsDone}
 use Rattle.envy_mirror.specs.Replies.{Off, Bad as WasBad, Said}
 use Rattle.envy_pair.proofs.answering.tick.Goals as goal
 

@@ -1,5 +1,5 @@
 use Rattle.std.proofs.Common.{ap, refl, sym, subst, arith}
-use Rattle.envy_base.specs.Array.{zeros}
+use Rattle.envy_array.specs.Array.{zeros}
 use Rattle.envy_io.specs.Taking.{Taking}
 use Rattle.envy_layout.specs.Sound.{IsSound}
 use Rattle.envy_map.specs.Fields.{chart}

@@ -9,9 +9,9 @@ use Rattle.envy_map.specs.Fields.{Chart, chart, slot, with_fields}
 use Rattle.envy_map.specs.Writes.{with_slot}
 use Rattle.envy_layout.specs.Same.{SameWords}
 use Rattle.envy_layout.specs.Sound.{IsSound, Sound, Slots}
-use Rattle.envy_layout.specs.Stands.{Stands}
+use Rattle.envy_meaning.specs.Stands.{Stands}
 use Rattle.envy_layout.proofs.Composition.{cause}
-use Rattle.envy_layout.proofs.Ending.{none-closed, IsLost-begin, Steps-begin}
+use Rattle.envy_meaning.proofs.Ending.{none-closed, IsLost-begin, Steps-begin}
 use Rattle.envy_memory.proofs.Slots.{slot-low}
 use Rattle.envy_memory.specs.Below.{BeginsBelow, IsBusy}
 use Rattle.envy_memory.specs.Calls.{IsCut, Undisturbed}

@@ -5,9 +5,9 @@ use Rattle.std.proofs.lemmas.Result.{err_from_is_err_and}
 use Rattle.envy_base.specs.declared.fields.Slot.TheVariants.{Active}
 use Rattle.envy_map.specs.Fields.{chart, slot}
 use Rattle.envy_layout.specs.Same.{Commits}
-use Rattle.envy_layout.specs.Stands.{Stands}
+use Rattle.envy_meaning.specs.Stands.{Stands}
 use Rattle.envy_layout.proofs.Composition.{cause}
-use Rattle.envy_layout.proofs.Ending.{Steps-commit, IsLost-commit, closed-past, closed-inactive}
+use Rattle.envy_meaning.proofs.Ending.{Steps-commit, IsLost-commit, closed-past, closed-inactive}
 use Rattle.envy_flush.specs.Storing.{Rows}
 use Rattle.envy_flush.specs.declared.parts.Parts.{Parts}
 use Rattle.envy_memory.specs.Calls.{IsCut, Undisturbed}

@@ -1,6 +1,6 @@
 use Rattle.std.proofs.Common.{◌≡◌, [], sym, subst}
 use Rattle.envy_map.specs.Fields.{chart}
-use Rattle.envy_layout.specs.Stands.{Stands}
+use Rattle.envy_meaning.specs.Stands.{Stands}
 use Rattle.envy_memory.specs.Picture.{IsMemory, Picture}
 use Rattle.envy_memory.proofs.Ended.{unowned-shut}
 use Rattle.envy_memory.proofs.memory.Memory.known.Goals as goal

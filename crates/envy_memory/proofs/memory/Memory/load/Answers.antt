@@ -8,7 +8,7 @@ use Rattle.envy_base.specs.declared.fields.Place.TheVariants.{Absent, Row, Frame
 use Rattle.envy_map.specs.Fields.{Chart, chart, place}
 use Rattle.envy_layout.specs.Sound.{Sound, Places, IsSound}
 use Rattle.envy_flush.specs.Pages.{InRange}
-use Rattle.envy_layout.specs.Stands.{Stands}
+use Rattle.envy_meaning.specs.Stands.{Stands}
 use Rattle.envy_table.specs.Agreement.{AreCurrent}
 use Rattle.envy_table.specs.Entries.{Translations}
 use Rattle.envy_txn.specs.Owners.{Ownership}

@@ -5,7 +5,7 @@ use Rattle.envy_base.specs.Shape.{version_of}
 use Rattle.envy_base.specs.declared.shape.Shape.{Shape}
 use Rattle.envy_map.specs.Fields.{chart}
 use Rattle.envy_layout.specs.Same.{SameDurable}
-use Rattle.envy_layout.specs.Stands.{Stands}
+use Rattle.envy_meaning.specs.Stands.{Stands}
 use Rattle.envy_layout.specs.Words.{durable}
 use Rattle.envy_layout.proofs.Composition.{cause}
 use Rattle.envy_txn.specs.Owners.{Ownership}

@@ -3,7 +3,7 @@ use Rattle.std.proofs.lemmas.Result.{err_from_is_err_and}
 use Rattle.envy_base.specs.declared.shape.Shape.{Shape}
 use Rattle.envy_map.specs.Fields.{chart}
 use Rattle.envy_layout.specs.Same.{Framed}
-use Rattle.envy_layout.specs.Stands.{Stands}
+use Rattle.envy_meaning.specs.Stands.{Stands}
 use Rattle.envy_layout.proofs.Composition.{cause}
 use Rattle.envy_flush.specs.Storing.{Leaves}
 use Rattle.envy_flush.proofs.StoreLemmas.{Leaves-wrote}

@@ -1,6 +1,6 @@
 use Rattle.std.proofs.Common.{sym, subst}
 use Rattle.envy_map.specs.Fields.{chart}
-use Rattle.envy_layout.specs.Stands.{Stands}
+use Rattle.envy_meaning.specs.Stands.{Stands}
 use Rattle.envy_layout.proofs.Composition.{cause}
 use Rattle.envy_flush.proofs.Leaving.{powers_both}
 use Rattle.envy_memory.specs.Below.{TicksBelow}

@@ -1,7 +1,7 @@
 use Rattle.std.proofs.Common.{arith, ◌≡◌, ap, sym, subst, true, false, ◌∙◌, ◌⊎◌, List, ℕ}
 use Rattle.std.specs.Prelude.{Result, Err}
-use Rattle.envy_base.specs.Array.{Array}
-use Rattle.envy_layout.specs.Stands.{Stands}
+use Rattle.envy_array.specs.Array.{Array}
+use Rattle.envy_meaning.specs.Stands.{Stands}
 use Rattle.envy_layout.specs.Words.{durable}
 use Rattle.envy_memory.specs.Calls.{Commits, Works}
 use Rattle.envy_memory.specs.declared.faults.EndFault.{EndFault}
