@@ -27,7 +27,7 @@ use Rattle.envy_layout.specs.Same.{Counted, Kept}
 use Rattle.envy_map.specs.Fields.{Chart, Fields, chart, map_fields}
 use Rattle.envy_policy.specs.declared.setup.Setup.{Setup as OfSetup}
 use Rattle.envy_saved.proofs.Reopened.{same_fields, same_sound, same_words}
-use Rattle.envy_synced.specs.Disk.{IsLast, IsSynced, Reopens}
+use Rattle.envy_synced.specs.Disk.{CrashLeaves, IsLast, IsSynced, Reopens}
 
 module _ {D : Type 0} (left_since : D → ℕ → List ℕ → Type 0) (moment : D → ℕ) where
   -- each such file is another such file
@@ -127,13 +127,13 @@ kept-words sh was s t o kept file r words opens =
     }
 
 module _ {D : Type 0} (left_since : D → ℕ → List ℕ → Type 0) (moment : D → ℕ) (sh : Shape) (was : List ℕ) (device : D) (s t : State) (o : IsOpened sh was s) (synced : IsSynced (chart s))
-    (last : (c : Chart) → IsSynced c → IsLast c (chart t) → (file : List ℕ) → left_since device c.notes.last.moment file → ∥ Reopens c file ⊎ ((t.on ≡ false) × Reopens (chart t) file) ∥₁) (time : t.notes.last.moment ≤ moment device) where
+    (crash : CrashLeaves (left_since device) (moment device) (chart t)) where
   -- a journal that was opened and closed again
   leaves-such : (Such : List ℕ → Type 0) → IsLast (chart s) (chart t) → ((file : List ℕ) → OpensAlike sh was file → Such file) → ((file : List ℕ) → Reopens (chart t) file → Such file) → Leaves left_since moment device Such
   leaves-such Such l alike now = record {
     since = s.notes.last.moment;
-    before = (let same : t.notes.last.moment ≡ s.notes.last.moment = ap (λ (y : SyncNote). y.moment) l.sync in omega (arith, time, same));
-    each = λ file left. ∥∥₁_map (last (chart s) synced l file left) (λ e. either file e);
+    before = (let same : t.notes.last.moment ≡ s.notes.last.moment = ap (λ (y : SyncNote). y.moment) l.sync in omega (arith, crash.time, same));
+    each = λ file left. ∥∥₁_map (crash.last (chart s) synced l file left) (λ e. either file e);
   }
     where
       either : (file : List ℕ) → Reopens (chart s) file ⊎ ((t.on ≡ false) × Reopens (chart t) file) → Such file

@@ -30,7 +30,7 @@ use Rattle.envy_memory.specs.Formats.{CountsFormat, MayFormat, Refuses}
 use Rattle.envy_memory.specs.declared.faults.FormatFault.{FormatFault}
 use Rattle.envy_memory.specs.declared.faults.FormatFault.TheVariants.{Off as FormatOff, Setup as FormatSetup, OtherShape, Memory as FormatMemory, Bad}
 use Rattle.envy_policy.specs.declared.setup.Setup.{Setup as OfSetup}
-use Rattle.envy_synced.specs.Disk.{IsLast, IsSynced, Reopens}
+use Rattle.envy_synced.specs.Disk.{CrashLeaves, IsLast, IsSynced, Reopens}
 
 -- where nothing was done in a journal it is so also where less is said
 module _ {D : Type 0} (seen : D → List ℕ) (has_failed : D → Bool) (device : D) where
@@ -110,12 +110,12 @@ off-stays sh s t setup synced none is same (off, inr (may, inr (inl (flash, sram
 off-stays sh s t setup synced none is same (off, inr (may, inr (inr stood), cuts)) file r = inl (opens-zeros sh (chart t) (same ∙ is) stood file r)
 
 module _ {D : Type 0} (left_since : D → ℕ → List ℕ → Type 0) (moment : D → ℕ) (sh : Shape) (device : D) (was now : Chart) (synced : IsSynced was) (none : operations was.notes.last.bytes ≡ []) (is : was.shape ≡ sh) (l : IsLast was now)
-    (reads : (file : List ℕ) → left_since device was.notes.last.moment file → ∥ StandsFor was.shape (operations was.notes.last.bytes) file ⊎ ((now.on ≡ false) × Reopens now file) ∥₁) (time : now.notes.last.moment ≤ moment device) where
+    (crash : CrashLeaves (left_since device) (moment device) now) where
   leaves-new : (Such : List ℕ → Type 0) → ((file : List ℕ) → StandsFor sh [] file → Such file) → ((file : List ℕ) → now.on ≡ false → Reopens now file → Such file) → Leaves left_since moment device Such
   leaves-new Such stands off = record {
     since = was.notes.last.moment;
-    before = (let same : now.notes.last.moment ≡ was.notes.last.moment = ap (λ (y : SyncNote). y.moment) l.sync in omega (arith, time, same));
-    each = λ file left. ∥∥₁_map (reads file left) (λ e. either file e);
+    before = (let same : now.notes.last.moment ≡ was.notes.last.moment = ap (λ (y : SyncNote). y.moment) l.sync in omega (arith, crash.time, same));
+    each = λ file left. ∥∥₁_map (crash.reads was l file left) (λ e. either file e);
   }
     where
       either : (file : List ℕ) → StandsFor was.shape (operations was.notes.last.bytes) file ⊎ ((now.on ≡ false) × Reopens now file) → Such file
@@ -131,15 +131,15 @@ module _ {D : Type 0} (left_since : D → ℕ → List ℕ → Type 0) (moment :
   dark-leaves before held such = leaves-new (StaysNew (Failed held) sh before) (λ file stands. inl stands) (λ file dark r. inr (such file r))
 
 module _ {D : Type 0} (left_since : D → ℕ → List ℕ → Type 0) (moment : D → ℕ) (sh : Shape) (device : D) (s t : State) (synced : IsSynced (chart s)) (none : operations s.notes.last.bytes ≡ []) (is : s.shape ≡ sh) (counts : CountsFormat (chart s) (chart t))
-    (reads : (file : List ℕ) → left_since device s.notes.last.moment file → ∥ StandsFor s.shape (operations s.notes.last.bytes) file ⊎ ((t.on ≡ false) × Reopens (chart t) file) ∥₁) (time : t.notes.last.moment ≤ moment device) where
+    (crash : CrashLeaves (left_since device) (moment device) (chart t)) where
   last : IsLast (chart s) (chart t)
   last = counts-last (chart s) (chart s) (chart t) counts (record { shape = refl; sync = refl })
 
   format-off : (before : List ℕ) (setup : OfSetup) (held : ℕ) → Refuses s setup FormatOff t → Leaves left_since moment device (StaysNew (Failed held) sh before)
-  format-off before setup held r = dark-leaves left_since moment sh device (chart s) (chart t) synced none is last reads time before held (λ file re. off-stays sh s t setup synced none is counts.shape r file re)
+  format-off before setup held r = dark-leaves left_since moment sh device (chart s) (chart t) synced none is last crash before held (λ file re. off-stays sh s t setup synced none is counts.shape r file re)
 
   format-on : (setup : OfSetup) (fault : FormatFault) → (fault ≡ FormatOff → ⊥) → Refuses s setup fault t → Leaves left_since moment device (StandsFor sh [])
-  format-on setup fault other r = lit-leaves left_since moment sh device (chart s) (chart t) synced none is last reads time (refused-on s t setup fault other r)
+  format-on setup fault other r = lit-leaves left_since moment sh device (chart s) (chart t) synced none is last crash (refused-on s t setup fault other r)
 
   -- a memory wasn't formatted
   pub format-leaves : (before : List ℕ) (seen : D → List ℕ) (has_failed : D → Bool) (setup : OfSetup) (new : D) (unbegun : Unbegun) (fault : FormatFault) (held : ℕ) → Refuses s setup fault t → SaysFault seen has_failed device new unbegun fault held
@@ -169,11 +169,11 @@ fails-last was old new off (inr (on, is)) l = subst (λ (c : Chart). IsLast was 
 -- the first sync of a memory of zeros failed
 pub sync-off : {D : Type 0} (before : List ℕ) (left_since : D → ℕ → List ℕ → Type 0) (moment : D → ℕ) (sh : Shape) (device : D) (was old new : Chart) (off : Off) (held : ℕ) (synced : IsSynced was) → operations was.notes.last.bytes ≡ [] → IsLast was old → old.shape ≡ sh
     → SyncsChart {T = Unit {0}} old (Err off) new → Stands old (zeros sh.pages sh.shadows)
-    → (IsLast was new → (file : List ℕ) → left_since device was.notes.last.moment file → ∥ StandsFor was.shape (operations was.notes.last.bytes) file ⊎ ((new.on ≡ false) × Reopens new file) ∥₁) → new.notes.last.moment ≤ moment device
+    → CrashLeaves (left_since device) (moment device) new
     → Leaves left_since moment device (StaysNew (Failed held) sh before)
-sync-off before left_since moment sh device was old new off held synced none l is fails stands reads time =
+sync-off before left_since moment sh device was old new off held synced none l is fails stands crash =
     let then = fails-last was old new off fails l in
     let shape : new.shape ≡ sh = fails-shape old new off fails ∙ is in
     let stood : Holds new (zeros sh.pages sh.shadows) = fails-holds old new off (zeros sh.pages sh.shadows) fails (Stands.holds stands) in
-    dark-leaves left_since moment sh device was new synced none (then.shape ∙ shape) then (reads then) time before held
+    dark-leaves left_since moment sh device was new synced none (then.shape ∙ shape) then crash before held
     (λ file r. inl (opens-zeros sh new shape (subst (λ (x : Shape). Holds new (zeros x.pages x.shadows)) (sym shape) stood) file r))

@@ -1,14 +1,14 @@
-ghost use Rattle.std.specs.Prelude.{◌≡◌, ◌⊎◌, ◌≤◌, [], List, ℕ, false, IfOk, IfErr};
+ghost use Rattle.std.specs.Prelude.{◌≡◌, ◌⊎◌, [], List, ℕ, false, IfOk, IfErr};
 ghost use Rattle.envy_array.specs.Array.{zeros};
 ghost use Rattle.envy_device.specs.Device.{Only};
 ghost use Rattle.envy_journal.specs.Content.{blank, content_of};
-ghost use Rattle.envy_journal.specs.Head.{IsUnmade, StandsFor};
+ghost use Rattle.envy_journal.specs.Head.{IsUnmade};
 ghost use Rattle.envy_journal.specs.Reading.{operations};
 ghost use Rattle.envy_begun.specs.Beginning.{HasBegun, HasStopped, IsStopped};
 ghost use Rattle.envy_begun.specs.Left.{Leaves, StaysNew};
 ghost use Rattle.envy_meaning.specs.Stands.{Stands};
 ghost use Rattle.envy_map.specs.Fields.{Chart, chart};
-ghost use Rattle.envy_synced.specs.Disk.{IsLast, IsSynced, Reopens};
+ghost use Rattle.envy_synced.specs.Disk.{CrashLeaves, IsLast, IsSynced};
 ghost use Rattle.envy_memory.specs.Formats.{IsFresh, IsStarted};
 
 use crate::stopping::{unformatted, unopened};
@@ -29,18 +29,8 @@ pub(crate) const ROOM: usize = 65536;
 pub(crate) fn closed<B: Steady + Drop, D: Device>(kept: Kept<B, D>) -> (D, usize)
     ensures stopped { (⟦<Kept<B, D> as envy_base::Board>⟧.state kept).on ≡ false
         → HasStopped D.seen D.has_failed result.1 result.0 }
-    ensures last { (was : Chart) → IsSynced was → IsLast was (chart (⟦<Kept<B, D> as envy_base::Board>⟧.state kept))
-        → (file : List ℕ) → D.left_since result.0 was.notes.last.moment file
-        → ∥ Reopens was file
-        ⊎ (((⟦<Kept<B, D> as envy_base::Board>⟧.state kept).on ≡ false)
-        × Reopens (chart (⟦<Kept<B, D> as envy_base::Board>⟧.state kept)) file) ∥₁ }
-    ensures reads { (was : Chart) → IsSynced was
-        → IsLast was (chart (⟦<Kept<B, D> as envy_base::Board>⟧.state kept))
-        → (file : List ℕ) → D.left_since result.0 was.notes.last.moment file
-        → ∥ StandsFor was.shape (operations was.notes.last.bytes) file
-        ⊎ (((⟦<Kept<B, D> as envy_base::Board>⟧.state kept).on ≡ false)
-        × Reopens (chart (⟦<Kept<B, D> as envy_base::Board>⟧.state kept)) file) ∥₁ }
-    ensures time { (⟦<Kept<B, D> as envy_base::Board>⟧.state kept).notes.last.moment ≤ D.moment result.0 }
+    ensures leaves { CrashLeaves (D.left_since result.0) (D.moment result.0)
+        (chart (⟦<Kept<B, D> as envy_base::Board>⟧.state kept)) }
 {
     let _device = kept.device();
     let journal = kept.into_journal();

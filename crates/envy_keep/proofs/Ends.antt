@@ -12,7 +12,7 @@ use Rattle.envy_begun.specs.Opens.{OpensAs}
 use Rattle.envy_disk.specs.Disk.{SyncsChart, with_sync}
 use Rattle.envy_journal.specs.Head.{StandsFor}
 use Rattle.envy_journal.specs.Reading.{operations}
-use Rattle.envy_synced.specs.Disk.{IsLast, IsSynced, Reopens}
+use Rattle.envy_synced.specs.Disk.{CrashLeaves, IsLast, IsSynced, Reopens}
 use Rattle.envy_meaning.specs.Stands.{Holds, Stands}
 use Rattle.envy_layout.specs.Words.{durable}
 use Rattle.envy_map.specs.Fields.{Chart, failed}
@@ -65,12 +65,12 @@ opens-so was sh words file good shape is opens =
 run-as : (a b : Shape) (first m : Array) (turns : List KeepTurn) → a ≡ b → KeepRun a.entries first turns m → KeepRun b.entries first turns m
 run-as a b first m turns same run = subst (λ (sh : Shape). KeepRun sh.entries first turns m) same run
 
-module _ (left : ℕ → List ℕ → Type 0) (now : ℕ) (new : Picture) (last : (was : Chart) → IsSynced was → IsLast was new.chart → (file : List ℕ) → left was.notes.last.moment file → ∥ Reopens was file ⊎ ((new.chart.on ≡ false) × Reopens new.chart file) ∥₁) (reads : (was : Chart) (synced : IsSynced was) → IsLast was new.chart → (file : List ℕ) → left was.notes.last.moment file → ∥ StandsFor was.shape (operations (IsSynced.bytes synced)) file ⊎ ((new.chart.on ≡ false) × Reopens new.chart file) ∥₁) (time : new.chart.plans ≤ now) where
+module _ (left : ℕ → List ℕ → Type 0) (now : ℕ) (new : Picture) (crash : CrashLeaves left now new.chart) where
   survives : (sh : Shape) (was : Chart) (words : List ℕ) (Later : List ℕ → Type 0) → IsSynced was → IsLast was new.chart → IsGood was → durable was ≡ words → new.chart.shape ≡ sh → ((file : List ℕ) → new.chart.on ≡ false → Reopens new.chart file → (other : List ℕ) × Later other × OpensAs sh other file) → Survives sh left now words Later
   survives sh was words Later synced l good is shape later = record {
     moment = was.notes.last.moment;
-    before = let same = l.moment in omega (arith, time, same);
-    opens = λ file since. ∥∥₁_map (last was synced l file since) (λ e. either file e);
+    before = let same = ap (λ (y : SyncNote). y.moment) l.sync in omega (arith, crash.time, same);
+    opens = λ file since. ∥∥₁_map (crash.last was synced l file since) (λ e. either file e);
   }
     where
       either : (file : List ℕ) → Reopens was file ⊎ ((new.chart.on ≡ false) × Reopens new.chart file) → OpensAs sh words file ⊎ ((other : List ℕ) × Later other × OpensAs sh other file)
@@ -78,7 +78,7 @@ module _ (left : ℕ → List ℕ → Type 0) (now : ℕ) (new : Picture) (last 
       either file (inr (off, opens)) = inr (later file off opens)
 
   -- a file is such a one, or reopens as the board of now, which is a later one
-  leaves : (was : Chart) (Such : List ℕ → Type 0) (LaterBoard : Chart → Type 0) → ((file : List ℕ) → left was.notes.last.moment file → ∥ Such file ⊎ ((new.chart.on ≡ false) × Reopens new.chart file) ∥₁) → ((file : List ℕ) → new.chart.on ≡ false → Reopens new.chart file → (other : Chart) × LaterBoard other × Reopens other file) → LeavesSince left was.plans Such LaterBoard
+  leaves : (was : Chart) (Such : List ℕ → Type 0) (LaterBoard : Chart → Type 0) → ((file : List ℕ) → left was.notes.last.moment file → ∥ Such file ⊎ ((new.chart.on ≡ false) × Reopens new.chart file) ∥₁) → ((file : List ℕ) → new.chart.on ≡ false → Reopens new.chart file → (other : Chart) × LaterBoard other × Reopens other file) → LeavesSince left was.notes.last.moment Such LaterBoard
   leaves was Such LaterBoard each later file since = ∥∥₁_map (each file since) either
     where
       either : Such file ⊎ ((new.chart.on ≡ false) × Reopens new.chart file) → Such file ⊎ ((other : Chart) × LaterBoard other × Reopens other file)
@@ -95,9 +95,9 @@ module _ (left : ℕ → List ℕ → Type 0) (now : ℕ) (new : Picture) (last 
     survives = survives start.memory.chart.shape s.was (undone s.array) Later s.synced l (record { magic = s.magic; version = s.version; sound = s.sound }) s.words shape later;
     board = s.was;
     on_disk = s.on_disk;
-    reopens = leaves s.was (Reopens s.was) LaterBoard (λ file since. last s.was s.synced l file since) board_later;
+    reopens = leaves s.was (Reopens s.was) LaterBoard (λ file since. crash.last s.was s.synced l file since) board_later;
     synced = s.synced;
-    reads = leaves s.was (StandsFor s.was.shape (operations (IsSynced.bytes s.synced))) LaterBoard (λ file since. reads s.was s.synced l file since) board_later;
+    reads = leaves s.was (StandsFor s.was.shape (operations s.was.notes.last.bytes)) LaterBoard (λ file since. crash.reads s.was l file since) board_later;
   }
 
   -- power is on
@@ -136,8 +136,8 @@ module _ (left : ℕ → List ℕ → Type 0) (now : ℕ) (new : Picture) (last 
       (λ file off opens. absurd (false≢true (sym off ∙ ap (λ (p : Picture). p.chart.on) same ∙ Stands.on stood)))
 
   -- and the file reopens as the board of before, since a sync changes nothing else
-  whole-board : (start : Start) (old : Picture) (turns : List KeepTurn) (t : KeptSince start old turns) (sync : SyncNote) → IsSynced new.chart → new ≡ record old { chart = with_sync old.chart sync } → LeavesSince left new.chart.plans (Reopens old.chart) NoBoardLater
-  whole-board start old turns t sync synced same file since = ∥∥₁_map (last new.chart synced (record { shape = refl; sync = refl }) file since) either
+  whole-board : (start : Start) (old : Picture) (turns : List KeepTurn) (t : KeptSince start old turns) (sync : SyncNote) → IsSynced new.chart → new ≡ record old { chart = with_sync old.chart sync } → LeavesSince left new.chart.notes.last.moment (Reopens old.chart) NoBoardLater
+  whole-board start old turns t sync synced same file since = ∥∥₁_map (crash.last new.chart synced (record { shape = refl; sync = refl }) file since) either
     where
       either : Reopens new.chart file ⊎ ((new.chart.on ≡ false) × Reopens new.chart file) → Reopens old.chart file ⊎ ((other : Chart) × NoBoardLater other × Reopens other file)
       either (inl opens) = let r = subst (λ (p : Picture). Reopens p.chart file) same opens in inl (record { head = Reopens.head r; fields = Reopens.fields r; flash = Reopens.flash r; ends = Reopens.ends r })

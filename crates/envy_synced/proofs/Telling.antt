@@ -13,7 +13,7 @@ use Rattle.envy_journal.specs.Journal.{IsFileOf, kept}
 use Rattle.envy_journal.specs.Log.{Begins, kept_bytes}
 use Rattle.envy_journal.specs.Reading.{operations}
 use Rattle.envy_journal.specs.Snapshot.{most_of}
-use Rattle.envy_synced.specs.Disk.{disk_state, Ends, IsKept, Reopens, IsCompact, IsSynced, IsLast, IsBefore}
+use Rattle.envy_synced.specs.Disk.{CrashLeaves, disk_state, Ends, IsKept, Reopens, IsCompact, IsSynced, IsLast, IsBefore}
 
 -- the operations that a sync brought to the disk open as the board was
 reopens_synced : (was : Chart) (sh : Shape) (bytes file : List ℕ) → IsSynced was → was.shape ≡ sh → bytes ≡ was.notes.last.bytes → StandsFor sh (operations bytes) file → Reopens was file
@@ -54,7 +54,7 @@ module _ {D : Type 0} (seen : D → List ℕ) (moment hindered : D → ℕ) (lef
   told_ends c file good last (inr (off, holding)) = inr (off, reopens_now s told file holding refl refl)
 
   -- a crash since the last sync leaves a file that reopens to what was synced then
-  pub told_last : (c : Chart) (file : List ℕ) → IsSynced c → IsLast c (chart told) → left_since now.device c.notes.last.moment file → ∥ Reopens c file ⊎ ((told.on ≡ false) × Reopens (chart told) file) ∥₁
+  told_last : (c : Chart) (file : List ℕ) → IsSynced c → IsLast c (chart told) → left_since now.device c.notes.last.moment file → ∥ Reopens c file ⊎ ((told.on ≡ false) × Reopens (chart told) file) ∥₁
   told_last c file good last left = ∥∥₁_map (is.each file (subst (λ (t : ℕ). left_since now.device t file) (ap (λ (y : SyncNote). y.moment) (sym last.sync)) left)) (λ e. told_ends c file good last e)
 
   told_stands : (c : Chart) (file : List ℕ) → IsLast c (chart told) → Ends s (kept seen was) file → StandsFor c.shape (operations c.notes.last.bytes) file ⊎ ((told.on ≡ false) × Reopens (chart told) file)
@@ -64,7 +64,7 @@ module _ {D : Type 0} (seen : D → List ℕ) (moment hindered : D → ℕ) (lef
   told_stands c file last (inr (off, holding)) = inr (off, reopens_now s told file holding refl refl)
 
   -- it has the operations that were on the disk then
-  pub told_reads : (c : Chart) (file : List ℕ) → IsLast c (chart told) → left_since now.device c.notes.last.moment file → ∥ StandsFor c.shape (operations c.notes.last.bytes) file ⊎ ((told.on ≡ false) × Reopens (chart told) file) ∥₁
+  told_reads : (c : Chart) (file : List ℕ) → IsLast c (chart told) → left_since now.device c.notes.last.moment file → ∥ StandsFor c.shape (operations c.notes.last.bytes) file ⊎ ((told.on ≡ false) × Reopens (chart told) file) ∥₁
   told_reads c file last left = ∥∥₁_map (is.each file (subst (λ (t : ℕ). left_since now.device t file) (ap (λ (y : SyncNote). y.moment) (sym last.sync)) left)) (λ e. told_stands c file last e)
 
   told_either : (b c : Chart) (file : List ℕ) → IsSynced b → IsSynced c → IsBefore b (chart told) → IsLast c (chart told) → StandsFor s.shape (kept seen before) file ⊎ Ends s (kept seen was) file → Reopens b file ⊎ (Reopens c file ⊎ ((told.on ≡ false) × Reopens (chart told) file))
@@ -72,5 +72,13 @@ module _ {D : Type 0} (seen : D → List ℕ) (moment hindered : D → ℕ) (lef
   told_either b c file fine good first last (inr ends) = inr (told_ends c file good last ends)
 
   -- a crash since the sync before leaves one of the last two
-  pub told_before : (b c : Chart) (file : List ℕ) → IsSynced b → IsSynced c → IsBefore b (chart told) → IsLast c (chart told) → left_since now.device b.notes.last.moment file → ∥ Reopens b file ⊎ (Reopens c file ⊎ ((told.on ≡ false) × Reopens (chart told) file)) ∥₁
+  told_before : (b c : Chart) (file : List ℕ) → IsSynced b → IsSynced c → IsBefore b (chart told) → IsLast c (chart told) → left_since now.device b.notes.last.moment file → ∥ Reopens b file ⊎ (Reopens c file ⊎ ((told.on ≡ false) × Reopens (chart told) file)) ∥₁
   told_before b c file fine good first last left = ∥∥₁_map (is.since file (subst (λ (t : ℕ). left_since now.device t file) (ap (λ (y : SyncNote). y.moment) (sym first.sync)) left)) (λ e. told_either b c file fine good first last e)
+
+  pub crash_leaves : CrashLeaves (left_since now.device) (moment now.device) (chart told)
+  crash_leaves = record {
+    time = is.later;
+    last = λ was good last file left. told_last was file good last left;
+    reads = λ was last file left. told_reads was file last left;
+    one_before = λ first was fine good one last file left. told_before first was file fine good one last left;
+  }

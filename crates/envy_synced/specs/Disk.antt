@@ -66,5 +66,14 @@ pub record IsBefore (was now : Chart) : Type 0 where
   pub shape : was.shape ≡ now.shape
   pub sync : now.notes.before ≡ was.notes.last
 
+-- What a crash has left of a kept board that is `now`, by the moment since which it was. Since the last sync, behind which the
+-- board was `was`: a file that opens as this, with the operations that were on the disk then; or, where power is off, one that
+-- opens as the board of now. Since the sync before, behind which it was `first`: that, or one of these.
+pub record CrashLeaves (left_since : ℕ → List ℕ → Type 0) (moment : ℕ) (now : Chart) : Type 0 where
+  pub time : now.notes.last.moment ≤ moment
+  pub last : (was : Chart) → IsSynced was → IsLast was now → (file : List ℕ) → left_since was.notes.last.moment file → ∥ Reopens was file ⊎ ((now.on ≡ false) × Reopens now file) ∥₁
+  pub reads : (was : Chart) → IsLast was now → (file : List ℕ) → left_since was.notes.last.moment file → ∥ StandsFor was.shape (operations was.notes.last.bytes) file ⊎ ((now.on ≡ false) × Reopens now file) ∥₁
+  pub one_before : (first was : Chart) → IsSynced first → IsSynced was → IsBefore first now → IsLast was now → (file : List ℕ) → left_since first.notes.last.moment file → ∥ Reopens first file ⊎ (Reopens was file ⊎ ((now.on ≡ false) × Reopens now file)) ∥₁
+
 pub lawful_disk : (notes : Notes) (s : State) → IsBoard s → IsBoard (with_notes s notes)
 lawful_disk notes s is = record { shape = is.shape; sram = is.sram; rows = is.rows; pages = is.pages; words = is.words; erases = is.erases }

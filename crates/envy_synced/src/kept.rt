@@ -9,7 +9,7 @@ ghost use Rattle.envy_journal.specs.Journal.{journal_state, kept, done};
 ghost use Rattle.envy_journal.specs.Log.{HasEnded};
 ghost use Rattle.envy_journal.specs.Reading.{operations};
 ghost use Rattle.envy_journal.specs.Snapshot.{limit_of};
-ghost use Rattle.envy_synced.specs.Disk.{IsKept, IsLast, IsBefore, IsCompact, IsHindered, IsSynced, Reopens, disk_state};
+ghost use Rattle.envy_synced.specs.Disk.{CrashLeaves, IsKept, IsCompact, IsHindered, IsSynced, disk_state};
 
 use crate::light::{erase, program, put};
 use envy_base::{Board, Off, Page, Shape, Trouble};
@@ -49,35 +49,14 @@ impl<B: Steady, D: Device> Kept<B, D> {
         }
     }
 
-    /// The device. A crash of the machine at any moment since the last sync that succeeded leaves a file that opens as
-    /// the board was behind it, with the operations that were on the disk then, or, where power is off, as it is now: then a
-    /// later sync may have done its work and failed.
-    /// One since the sync before leaves what that one brought to the disk, or one of these. While power is on, the file has
-    /// no more of what isn't synced than a limit.
+    /// The device, and what a crash of the machine has left of its file. Where power is off, a later sync may have done its
+    /// work and failed. While power is on, the file has no more of what isn't synced than a limit.
     pub fn device(&self) -> &D
         ensures here { result.now ≡ self.now.journal.log.device }
         ensures light { IsTrue (⟦<Kept<B, D> as Board>⟧.state self.now).on
             → spilled self.now.journal.log ≤ limit_of (⟦<Kept<B, D> as Board>⟧.state self.now).shape }
-        ensures time { (⟦<Kept<B, D> as Board>⟧.state self.now).notes.last.moment ≤ D.moment result.now }
-        ensures last { (was : Chart) → IsSynced was → IsLast was (chart (⟦<Kept<B, D> as Board>⟧.state self.now))
-            → (file : List ℕ) → D.left_since result.now was.notes.last.moment file
-            → ∥ Reopens was file
-            ⊎ (((⟦<Kept<B, D> as Board>⟧.state self.now).on ≡ false)
-            × Reopens (chart (⟦<Kept<B, D> as Board>⟧.state self.now)) file) ∥₁ }
-        ensures reads { (was : Chart) → IsSynced was
-            → IsLast was (chart (⟦<Kept<B, D> as Board>⟧.state self.now))
-            → (file : List ℕ) → D.left_since result.now was.notes.last.moment file
-            → ∥ StandsFor was.shape (operations was.notes.last.bytes) file
-            ⊎ (((⟦<Kept<B, D> as Board>⟧.state self.now).on ≡ false)
-            × Reopens (chart (⟦<Kept<B, D> as Board>⟧.state self.now)) file) ∥₁ }
-        ensures one_before { (first was : Chart) → IsSynced first → IsSynced was
-            → IsBefore first (chart (⟦<Kept<B, D> as Board>⟧.state self.now))
-            → IsLast was (chart (⟦<Kept<B, D> as Board>⟧.state self.now))
-            → (file : List ℕ) → D.left_since result.now first.notes.last.moment file
-            → ∥ Reopens first file
-            ⊎ (Reopens was file
-            ⊎ (((⟦<Kept<B, D> as Board>⟧.state self.now).on ≡ false)
-            × Reopens (chart (⟦<Kept<B, D> as Board>⟧.state self.now)) file)) ∥₁ }
+        ensures leaves { CrashLeaves (D.left_since result.now) (D.moment result.now)
+            (chart (⟦<Kept<B, D> as Board>⟧.state self.now)) }
     {
         self.journal.device()
     }
@@ -97,7 +76,7 @@ impl<B: Steady, D: Device> Kept<B, D> {
 }
 
 impl<B: Steady, D: Device> Board for Kept<B, D> {
-    ghost use Rattle.envy_synced.specs.Disk.{lawful_disk};
+    ghost use Rattle.envy_synced.specs.Disk.{CrashLeaves, IsKept, IsCompact, IsHindered, IsSynced, disk_state};
     ghost use Rattle.envy_journal.specs.Journal.{lawful_lem};
 
     ghost state = { λ k. disk_state D.seen D.moment D.hindered k.synced.value.log k.before.value.log (journal_state k.journal.dead (B.state k.journal.board)) };

@@ -10,13 +10,5 @@ returns-clause-stopped g c off =
     subst (λ (d : g.row.D.Denot). IsTrue (g.D.Device.has_failed d)) (sym c.close.ensures) (c.into_journal-journal.ensures.ended off small) in
     (c.held-held.ensures.few, ended)
 
-pub returns-clause-last : goal.returns-clause-last
-returns-clause-last g c was good last =
-    rw (c.close.ensures, c.into_journal-journal.ensures.journal, sym c.device-device.ensures.here) (c.device-device.ensures.last was good last)
-
-pub returns-clause-reads : goal.returns-clause-reads
-returns-clause-reads g c was good last =
-    rw (c.close.ensures, c.into_journal-journal.ensures.journal, sym c.device-device.ensures.here) (c.device-device.ensures.reads was good last)
-
-pub returns-clause-time : goal.returns-clause-time
-returns-clause-time g c = rw (c.close.ensures, c.into_journal-journal.ensures.journal, sym c.device-device.ensures.here) c.device-device.ensures.time
+pub returns-clause-leaves : goal.returns-clause-leaves
+returns-clause-leaves g c = rw (c.close.ensures, c.into_journal-journal.ensures.journal, sym c.device-device.ensures.here) c.device-device.ensures.leaves

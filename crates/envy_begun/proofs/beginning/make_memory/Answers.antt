@@ -22,5 +22,5 @@ returns-in-Err-clause-failed g c =
 pub returns-in-Err-clause-left : goal.returns-in-Err-clause-left
 returns-in-Err-clause-left g c synced before none =
     format-leaves g.D.Device.left_since g.D.Device.moment c.args.setup.shape c.closed-device.result.0 _ _ synced none c.requires.shape c.in-Err.ensures.counts
-    (c.closed-device.ensures.reads _ synced (counts-last _ _ _ c.in-Err.ensures.counts (record { shape = refl; sync = refl }))) c.closed-device.ensures.time
+    c.closed-device.ensures.leaves
     before g.D.Device.seen g.D.Device.has_failed c.args.setup c.unformatted.result.1 c.unformatted.result.0 c.in-Err.fault c.closed-device.result.1 c.in-Err.ensures.made c.unformatted.ensures.says c.unformatted.ensures.time c.unformatted.ensures.left

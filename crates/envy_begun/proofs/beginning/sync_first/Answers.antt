@@ -16,4 +16,4 @@ returns-in-Err-clause-failed g c = (c.close-device.ensures.few, c.close-device.e
 pub returns-in-Err-clause-left : goal.returns-in-Err-clause-left
 returns-in-Err-clause-left g c was synced before last none =
     sync-off before g.D.Device.left_since g.D.Device.moment c.args._setup.shape c.close-device.result.0 was c.args.memory.chart c.sync.new.self.chart _ c.close-device.result.1 synced none last c.requires.shape
-    c.in-Err.ensures.answer c.requires.stands (c.close-device.ensures.reads was synced) c.close-device.ensures.time
+    c.in-Err.ensures.answer c.requires.stands c.close-device.ensures.leaves

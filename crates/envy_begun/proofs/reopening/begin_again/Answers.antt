@@ -66,7 +66,7 @@ pub returns-in-Err-attach-clause-left : goal.returns-in-Err-attach-clause-left
 returns-in-Err-attach-clause-left g c =
     let unbegun = c.unattached.result.0 in
     subst (λ (x : Shape). Leaves g.D.Device.left_since g.D.Device.moment c.unattached.result.1 (StaysWritten unbegun x c.args.bytes.now)) (c.read_journal.ensures.shape ∙ c.requires.shape)
-    (fault-leaves g.D.Device.left_since g.D.Device.moment (g.B.Board.state c.read_journal.new.board).shape c.args.bytes.now c.closed-device.result.0 _ _ c.in-Ok-opened_as_asked.ensures.opened c.in-Ok-opened_as_asked.ensures.synced c.closed-device.ensures.last c.closed-device.ensures.time
+    (fault-leaves g.D.Device.left_since g.D.Device.moment (g.B.Board.state c.read_journal.new.board).shape c.args.bytes.now c.closed-device.result.0 _ _ c.in-Ok-opened_as_asked.ensures.opened c.in-Ok-opened_as_asked.ensures.synced c.closed-device.ensures.leaves
     g.D.Device.seen g.D.Device.has_failed c.args.setup c.unattached.result.1 unbegun c.in-Err-attach.fault c.closed-device.result.1 c.in-Err-attach.ensures c.unattached.ensures.says c.unattached.ensures.time c.unattached.ensures.left)
 
 pub returns-in-Ok-attach-clause-compacted : goal.returns-in-Ok-attach-clause-compacted

@@ -12,7 +12,7 @@ conclude-status-requires g c is =
 
 pub returns-clause-served : goal.returns-clause-served
 returns-clause-served g c start kept =
-    keeps-served (g.D.Device.left_since c.close-device.result.0) (g.D.Device.moment c.close-device.result.0) c.conclude-status.new.memory c.close-device.ensures.last c.close-device.ensures.reads c.close-device.ensures.time start c.serve-served.new.service.memory c.serve-served.result.end c.conclude-status.result.0 c.conclude-status.result.1 c.serve-served.result.lines c.serve-served.result.taken _ _ (ap (λ (t : Taking). t.taken) c.new-2.ensures) c.conclude-status.ensures.why c.conclude-status.ensures.status (c.serve-served.ensures.serves start kept)
+    keeps-served (g.D.Device.left_since c.close-device.result.0) (g.D.Device.moment c.close-device.result.0) c.conclude-status.new.memory c.close-device.ensures.leaves start c.serve-served.new.service.memory c.serve-served.result.end c.conclude-status.result.0 c.conclude-status.result.1 c.serve-served.result.lines c.serve-served.result.taken _ _ (ap (λ (t : Taking). t.taken) c.new-2.ensures) c.conclude-status.ensures.why c.conclude-status.ensures.status (c.serve-served.ensures.serves start kept)
 
 pub returns-clause-stopped : goal.returns-clause-stopped
 returns-clause-stopped g c six =
