@@ -10,7 +10,8 @@ use Rattle.envy_chip.specs.declared.chip.Mode.TheVariants.{Array}
 use Rattle.envy_chip.specs.Commands.{ChipState, with_erased_block, read_of, upset_at}
 use Rattle.envy_bank.specs.Chips.{chip_of, programmed_by_bytes, erased_by_bytes, EachChip, row_read}
 use Rattle.envy_bank.specs.Lanes.{lane_of, row_from}
-use Rattle.envy_bank.specs.Rows.{BankState, IsPage, IsBank, ErasesBlock, ands, ones, row_of, with_row}
+use Rattle.envy_base.specs.State.{IsPage, ands, ones}
+use Rattle.envy_bank.specs.Rows.{BankState, IsBank, ErasesBlock, row_of, with_row}
 use Rattle.envy_bank.proofs.Words.{AreBytes}
 use Rattle.envy_bank.proofs.LaneLaws.{lanes_of, length-lanes_of, get_or-lanes_of, lane_of-row_from, row_from-lanes_of, row_from-ands}
 use Rattle.envy_bank.proofs.ProgramLaw.{lane_of-below, AreBytes-lanes_of}

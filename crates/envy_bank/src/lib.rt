@@ -7,7 +7,6 @@
 
 mod bank;
 mod chip_bank;
-mod counting;
 mod kept;
 mod lanes;
 mod laws;

@@ -7,6 +7,7 @@
 
 mod bench;
 mod board;
+mod count;
 mod faults;
 mod fields;
 mod page;
@@ -14,6 +15,7 @@ mod shape;
 
 pub use bench::{Bench, Maker, NoMemory};
 pub use board::{Board, Off, Trouble};
+pub use count::more;
 pub use faults::PlannedFault;
 pub use fields::{Job, Place, Slot, Undo};
 pub use page::{PAGE_BYTES, PAGE_LENGTH, PAGE_WORDS, Page};

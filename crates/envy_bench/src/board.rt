@@ -7,7 +7,7 @@ ghost use Rattle.envy_bench.specs.Parts.{state_of};
 
 use crate::flash::Flash;
 use crate::plans::Plans;
-use envy_base::{Bench, Board, NoMemory, Off, Page, PlannedFault, Shape, Trouble};
+use envy_base::{Bench, Board, NoMemory, Off, Page, PlannedFault, Shape, Trouble, more};
 use envy_map::words;
 use envy_power::{Event, Sram, Supply};
 use std::alloc::Global;
@@ -28,13 +28,6 @@ pub struct MemBoard {
     given: u32,
     ghost sound: { IsBoard (state_of shape flash sram supply begun pulled plans given) } by { Prim.hlevel props },
     ghost same_rows: { flash.rows ≡ shape.rows },
-}
-
-#[tactic(auto, unfolding(envy_base::specs::Counting::up))]
-fn more(count: u64) -> u64
-    ensures { result ≡ up count }
-{
-    count.saturating_add(1)
 }
 
 impl MemBoard {

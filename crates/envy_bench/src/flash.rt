@@ -1,5 +1,6 @@
 ghost use Rattle.std.specs.Prelude.{◌≡◌, ◌*◌, ◌<◌, ◌≤◌, IfOk, length, slice_index};
-ghost use Rattle.envy_bank.specs.Rows.{IsBank, ErasesBlock, ands, erased_bank, row_of, with_row};
+ghost use Rattle.envy_base.specs.State.{ands};
+ghost use Rattle.envy_bank.specs.Rows.{IsBank, ErasesBlock, erased_bank, row_of, with_row};
 ghost use Rattle.envy_bench.specs.TornRows.{torn_row, TearsRows};
 
 use crate::torn::next_row;

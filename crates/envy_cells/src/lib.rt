@@ -1,9 +1,7 @@
-//! Memory for a board on which nothing was done: its flash is all ones, and its SRAM all zeros.
+//! A board in memory of its own, of which no row takes memory before it is programmed.
 #![tactic(auto)]
 
-mod cells;
 mod owned;
 mod steady;
 
-pub use cells::Cells;
-pub use owned::CellBoard;
+pub use owned::OwnedBoard;

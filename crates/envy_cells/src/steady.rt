@@ -1,8 +1,8 @@
 ghost use Rattle.std.specs.Prelude.{refl};
 
-use crate::owned::CellBoard;
+use crate::owned::OwnedBoard;
 use envy_journal::Steady;
 
-impl Steady for CellBoard {
+impl Steady for OwnedBoard {
     ghost steady = { λ board. record { on = refl; cuts = refl; bads = refl } };
 }

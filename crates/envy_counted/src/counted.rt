@@ -1,10 +1,9 @@
 ghost use Rattle.std.specs.Prelude.{◌≡◌, ◌≤◌};
-ghost use Rattle.envy_base.specs.Counting.{up};
 ghost use Rattle.envy_counted.specs.AnyBoard.{with_failures};
 ghost use Rattle.envy_counted.specs.Counted.{TellsNoMore};
 
 use crate::{AnyBench, AnyBoard};
-use envy_base::{Bench, Board, Off, Page, Shape, Trouble};
+use envy_base::{Bench, Board, Off, Page, Shape, Trouble, more};
 
 /// A board over any: its counts of failures are those of the answers that it gave.
 #[derive(Drop)]
@@ -14,14 +13,6 @@ pub struct Counted<B: AnyBoard> {
     bads: u64,
     ghost cuts_told: { cuts ≤ (B.state board).cuts },
     ghost bads_told: { bads ≤ (B.state board).bads },
-}
-
-// One more, but no more than a word counts to.
-#[tactic(auto, unfolding(envy_base::specs::Counting::up))]
-fn more(count: u64) -> u64
-    ensures { result ≡ up count }
-{
-    count.saturating_add(1)
 }
 
 impl<B: AnyBoard> Counted<B> {

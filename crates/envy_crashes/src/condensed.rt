@@ -1,6 +1,6 @@
 // A journal that isn't synced for long, whose log is condensed, and whose machine crashes then.
 use crate::crashes::{NO_ROOM, SHAPE, SIZES, act, reopened, wanted};
-use envy_cells::Cells;
+use envy_cells::OwnedBoard;
 use envy_journal::create;
 use envy_torn::{Dice, TornFile};
 use std::alloc::Global;
@@ -34,10 +34,10 @@ struct Long {
 // Runs a session over a file whose calls fail from one on.
 fn run_long(rt: &impl Abort, alloc: Global, left: usize, bytewise: bool) -> Long {
     SHAPE.check().expect(rt, SIZES);
-    let mut cells = Cells::blank(alloc, &SHAPE).expect(rt, NO_ROOM);
+    let board = OwnedBoard::blank(alloc, &SHAPE).expect(rt, NO_ROOM);
     let file = TornFile::new(alloc, Vec::new(alloc), left, bytewise).expect(rt, NO_ROOM);
     let (mut synced, mut begun, mut condensed, mut failed) = (0, 0, false, false);
-    let mut journal = match create(alloc, cells.board(), file, ROOM) {
+    let mut journal = match create(alloc, board, file, ROOM) {
         Ok(journal) => journal,
         Err((_, file)) => {
             return Long {

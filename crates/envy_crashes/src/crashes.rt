@@ -1,7 +1,6 @@
 use envy_base::{Board, Shape};
-use envy_cells::Cells;
+use envy_cells::OwnedBoard;
 use envy_journal::{HeadError, Journaled, OpenError, create, open, read_head};
-use envy_region::RegionBoard;
 use envy_torn::{Dice, TornFile};
 use std::alloc::Global;
 use std::process::Abort;
@@ -42,7 +41,7 @@ pub(crate) const NO_ROOM: &str = "no room";
 
 pub(crate) const SIZES: &str = "the shape";
 
-type Opened<'a> = Result<Journaled<RegionBoard<'a>, TornFile>, (OpenError, TornFile)>;
+type Opened = Result<Journaled<OwnedBoard, TornFile>, (OpenError, TornFile)>;
 
 // What was found in a file, where it opened, and the file.
 type Found = (Option<Vec<u64>>, TornFile);
@@ -93,15 +92,14 @@ pub(crate) fn words<B: Board>(rt: &impl Abort, alloc: Global, board: &B) -> Vec<
 // The words of a board after the first `n` operations of a session.
 pub(crate) fn wanted(rt: &impl Abort, alloc: Global, n: usize) -> Vec<u64> {
     SHAPE.check().expect(rt, SIZES);
-    let mut cells = Cells::blank(alloc, &SHAPE).expect(rt, NO_ROOM);
-    let mut board = cells.board();
+    let mut board = OwnedBoard::blank(alloc, &SHAPE).expect(rt, NO_ROOM);
     for i in 0..n {
         act(rt, &mut board, i);
     }
     words(rt, alloc, &board)
 }
 
-fn found(rt: &impl Abort, alloc: Global, opened: Opened<'_>) -> Found {
+fn found(rt: &impl Abort, alloc: Global, opened: Opened) -> Found {
     match opened {
         Ok(journal) => {
             let held = words(rt, alloc, &journal);
@@ -115,9 +113,9 @@ fn found(rt: &impl Abort, alloc: Global, opened: Opened<'_>) -> Found {
 fn made(rt: &impl Abort, alloc: Global, bytes: Vec<u8>, left: usize, bytewise: bool) -> Found {
     assert!(rt; bytes.is_empty());
     SHAPE.check().expect(rt, SIZES);
-    let mut cells = Cells::blank(alloc, &SHAPE).expect(rt, NO_ROOM);
+    let board = OwnedBoard::blank(alloc, &SHAPE).expect(rt, NO_ROOM);
     let file = TornFile::new(alloc, bytes, left, bytewise).expect(rt, NO_ROOM);
-    found(rt, alloc, create(alloc, cells.board(), file, ROOM))
+    found(rt, alloc, create(alloc, board, file, ROOM))
 }
 
 // Takes up a file whose calls fail from one on.
@@ -126,10 +124,10 @@ fn taken_up(rt: &impl Abort, alloc: Global, bytes: Vec<u8>, left: usize, bytewis
         Ok(shape) => {
             assert!(rt; shape == SHAPE);
             shape.check().expect(rt, SIZES);
-            let mut cells = Cells::blank(alloc, &shape).expect(rt, NO_ROOM);
+            let board = OwnedBoard::blank(alloc, &shape).expect(rt, NO_ROOM);
             let copy = bytes.to_vec(alloc).expect(rt, NO_ROOM);
             let file = TornFile::new(alloc, copy, left, bytewise).expect(rt, NO_ROOM);
-            found(rt, alloc, open(alloc, cells.board(), file, &bytes, ROOM))
+            found(rt, alloc, open(alloc, board, file, &bytes, ROOM))
         }
         Err(HeadError::NoJournal) => made(rt, alloc, bytes, left, bytewise),
         Err(HeadError::OtherVersion) => panic!(rt; "another version"),
@@ -171,10 +169,10 @@ pub(crate) fn run(rt: &impl Abort, alloc: Global, left: usize, bytewise: bool) -
 // The same, over one whose second file's calls fail too, from another on.
 fn run_on(rt: &impl Abort, alloc: Global, left: usize, second: usize, bytewise: bool) -> Session {
     SHAPE.check().expect(rt, SIZES);
-    let mut cells = Cells::blank(alloc, &SHAPE).expect(rt, NO_ROOM);
+    let board = OwnedBoard::blank(alloc, &SHAPE).expect(rt, NO_ROOM);
     let mut file = TornFile::new(alloc, Vec::new(alloc), left, bytewise).expect(rt, NO_ROOM);
     file.fail_second(second);
-    let mut journal = match create(alloc, cells.board(), file, ROOM) {
+    let mut journal = match create(alloc, board, file, ROOM) {
         Ok(journal) => journal,
         Err((_, file)) => {
             return Session {

@@ -4,7 +4,7 @@ ghost use Rattle.envy_device.specs.Device.{Only};
 ghost use Rattle.envy_torn.specs.Torn.{file_bytes, file_outcome};
 
 use crate::crashes::{MOST_CALLS, NO_ROOM, ROOM, SESSION, SHAPE, SIZES, act, reopened, run, words};
-use envy_cells::Cells;
+use envy_cells::OwnedBoard;
 use envy_journal::{open, read_head};
 use envy_torn::{Dice, LeftFile, TornFile};
 use std::alloc::Global;
@@ -26,8 +26,8 @@ fn next(rt: &impl Abort, alloc: Global, file: TornFile, bytes: &[u8]) -> Told
     };
     assert!(rt; shape == SHAPE);
     shape.check().expect(rt, SIZES);
-    let mut cells = Cells::blank(alloc, &shape).expect(rt, NO_ROOM);
-    let Ok(mut journal) = open(alloc, cells.board(), file, bytes, ROOM) else {
+    let board = OwnedBoard::blank(alloc, &shape).expect(rt, NO_ROOM);
+    let Ok(mut journal) = open(alloc, board, file, bytes, ROOM) else {
         return None;
     };
     for i in SESSION..SESSION + LATER {
@@ -61,8 +61,8 @@ fn holds(rt: &impl Abort, alloc: Global, disk: &[u8], told: &[u64], bytewise: bo
     };
     assert!(rt; shape == SHAPE);
     shape.check().expect(rt, SIZES);
-    let mut cells = Cells::blank(alloc, &shape).expect(rt, NO_ROOM);
-    match open(alloc, cells.board(), file, disk, ROOM) {
+    let board = OwnedBoard::blank(alloc, &shape).expect(rt, NO_ROOM);
+    match open(alloc, board, file, disk, ROOM) {
         Ok(journal) => words(rt, alloc, &journal).as_slice() == told,
         Err(_) => false,
     }

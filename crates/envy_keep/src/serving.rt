@@ -13,7 +13,7 @@ ghost use Rattle.envy_serve.specs.Ends.{most_bytes};
 use crate::ending::{KeepEnded, serve_kept};
 use envy_args::KeepOptions;
 use envy_begun::{Holding, Unbegun, begin, plan};
-use envy_cells::Cells;
+use envy_cells::OwnedBoard;
 use envy_device::Place;
 use envy_io::{Sink, Source};
 use envy_journal::Steady;
@@ -108,10 +108,9 @@ pub fn keep<S: Source, K: Sink, D: Place + Drop>(
         Ok(plan) => plan,
         Err(unbegun) => return unserved(unbegun, device),
     };
-    let Ok(mut cells) = Cells::blank(alloc, &setup.shape) else {
+    let Ok(board) = OwnedBoard::blank(alloc, &setup.shape) else {
         return unserved(Unbegun::Memory, device);
     };
-    let board = cells.board();
     serve_on(
         alloc, board, device, options, bytes, setup, holding, source, sink,
     )

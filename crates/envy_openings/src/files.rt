@@ -16,7 +16,7 @@ use envy_args::{KeepOptions, Sizes};
 use envy_base::ShapeFault;
 use envy_begun::{Unbegun, begin, plan};
 use envy_calls::{Code, EnvySetup, checked_setup};
-use envy_cells::CellBoard;
+use envy_cells::OwnedBoard;
 use envy_memory::Memory;
 use envy_places::{MemoryPlace, PlaceCode, is_open};
 use envy_policy::{Setup, SetupFault};
@@ -67,7 +67,7 @@ fn begun(
     file: &[u8],
     port: i32,
     bytewise: bool,
-) -> Result<Memory<Kept<CellBoard, PortFile>>, Unbegun>
+) -> Result<Memory<Kept<OwnedBoard, PortFile>>, Unbegun>
     requires checks { checked setup.now ≡ Ok tt }
     requires six { HasSixSizes setup.now.shape }
     ensures begun { IfOk result (λ memory. (holding : OfHolding) × (array : Array)
@@ -78,7 +78,7 @@ fn begun(
 {
     let options = options(setup);
     let (setup, holding) = plan(&options, file)?;
-    let Ok(board) = CellBoard::blank(alloc, &setup.shape) else {
+    let Ok(board) = OwnedBoard::blank(alloc, &setup.shape) else {
         return Err(Unbegun::Memory);
     };
     let device = FilePort::found(port, file, bytewise);
@@ -95,7 +95,7 @@ fn opened(
     file: &[u8],
     port: i32,
     bytewise: bool,
-) -> Result<Memory<Kept<CellBoard, PortFile>>, PlaceCode>
+) -> Result<Memory<Kept<OwnedBoard, PortFile>>, PlaceCode>
     ensures { MatchResult result (Opened given.now file.now) (RefusesOpen given.now file.now) }
 {
     let setup = match checked_setup(given) {

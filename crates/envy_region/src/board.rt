@@ -1,10 +1,9 @@
 ghost use Rattle.std.specs.Prelude.{◌≡◌, ◌+◌, ◌<◌, ◌≤◌, ℕ, List, length, slice_set, slice_index};
 ghost use Rattle.std.proofs.Props.{props};
-ghost use Rattle.envy_base.specs.Counting.{up};
 ghost use Rattle.envy_base.specs.State.{IsBoard, ands, ones};
 ghost use Rattle.envy_region.specs.Region.{region_state, Erased};
 
-use envy_base::{Board, Off, PAGE_LENGTH, Page, Shape, Trouble};
+use envy_base::{Board, Off, PAGE_LENGTH, Page, Shape, Trouble, more};
 
 /// A board whose flash, SRAM and counts of erases lie in memory of its caller's.
 #[derive(Drop)]
@@ -20,14 +19,6 @@ pub struct RegionBoard<'a> {
     /// How many programs began since the board was made.
     pub begun: u64,
     ghost sound: { IsBoard (region_state shape flash.now sram.now erases.now begun) } by { Prim.hlevel props },
-}
-
-// One more, but no more than a word counts to.
-#[tactic(auto, unfolding(envy_base::specs::Counting::up))]
-fn more(count: u64) -> u64
-    ensures { result ≡ up count }
-{
-    count.saturating_add(1)
 }
 
 impl<'a> RegionBoard<'a> {
