@@ -15,7 +15,7 @@ use Rattle.envy_policy.specs.declared.setup.Setup.{Setup}
 use Rattle.envy_policy.specs.declared.setup.SetupFault.{SetupFault}
 use Rattle.envy_policy.specs.Setup.{checked_within, rule_of}
 use Rattle.envy_args.specs.declared.command.Command.{Command}
-use Rattle.envy_args.specs.declared.command.Command.TheVariants.{Run, Plain, Tpca, Gen, Save, Resume, Audit, Segments, Index, Mirror}
+use Rattle.envy_args.specs.declared.command.Command.TheVariants.{Run, Plain, Tpca, Gen, Save, Resume, Audit, Map, Index, Mirror}
 use Rattle.envy_args.specs.declared.read.TheConstants.{USUAL_ROWS}
 use Rattle.envy_args.specs.declared.command.WordsFault.{WordsFault}
 use Rattle.envy_args.specs.declared.command.WordsFault.TheVariants.{Form, Setup as Rule}
@@ -279,7 +279,7 @@ abbrev pub audit_of : Options → Result Command WordsFault
 audit_of options = Ok (Audit (most_rows options))
 
 abbrev pub segments_of : Options → Result Command WordsFault
-segments_of options = Ok (Segments (most_rows options))
+segments_of options = Ok (Map (most_rows options))
 
 abbrev pub tree_of : Setup → Options → Result Command WordsFault
 tree_of setup options =

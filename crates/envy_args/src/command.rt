@@ -47,7 +47,7 @@ pub enum Command {
         most: u32,
     },
     /// Read an image of at most so many rows, and tell its segments.
-    Segments {
+    Map {
         most: u32,
     },
     /// Keep an index tree in the memory: a trace of its operations is answered.

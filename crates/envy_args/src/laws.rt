@@ -2,7 +2,7 @@ ghost use Rattle.std.specs.Prelude.{◌≡◌, ◌↔◌, ℕ, None, [], ◌∷�
 ghost use Rattle.envy_array.specs.Area.{Fits};
 ghost use Rattle.envy_array.specs.declared.area.Area.{Area};
 ghost use Rattle.envy_policy.specs.declared.setup.Policy.TheVariants.{Greedy};
-ghost use Rattle.envy_args.specs.declared.command.Command.TheVariants.{Run, Resume, Audit, Segments};
+ghost use Rattle.envy_args.specs.declared.command.Command.TheVariants.{Run, Resume, Audit, Map};
 ghost use Rattle.envy_args.specs.declared.command.WordsFault.TheVariants.{Form, Setup as Rule};
 ghost use Rattle.envy_args.specs.Words.{command_of, fits, usual};
 

@@ -109,7 +109,7 @@ fn make(word: Word, options: &Options) -> Result<Command, WordsFault>
         Word::Save => save(options),
         Word::Resume => resume(options),
         Word::Audit => audit(options),
-        Word::Segments => segments(options),
+        Word::Map => segments(options),
         Word::Index => index(options),
         Word::Mirror => mirror(options),
     }
@@ -181,7 +181,7 @@ fn segments(options: &Options) -> Result<Command, WordsFault>
     ensures { result ≡ made audit_options segments_of options.now }
 {
     let most = most_rows(options)?;
-    Ok(Command::Segments { most })
+    Ok(Command::Map { most })
 }
 
 fn plain(options: &Options) -> Result<Command, WordsFault>

@@ -3,7 +3,7 @@ use Rattle.std.proofs.Common.{◌≡◌, ◌∙◌, ◌↔◌, IsTrue, Bool, ℕ
 use Rattle.std.specs.List.{All}
 use Rattle.std.proofs.lemmas.List.{take_at, get_or_read, length-set, length-replicate}
 use Rattle.std.proofs.lemmas.Nat.{row_fits}
-use Rattle.envy_chip.specs.Commands.{ChipState, erased_chip, read_of, upset_at}
+use Rattle.envy_bank.specs.Commands.{ChipState, erased_chip, read_of, upset_at}
 use Rattle.envy_bank.specs.Lanes.{lane_of, row_from, lanes_at, rows_from, IsReady, AreChips, anded, blanked, EachLane, LanesHold}
 use Rattle.envy_base.specs.Counting.{up}
 use Rattle.envy_base.specs.State.{IsPage, ands}

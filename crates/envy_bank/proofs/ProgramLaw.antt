@@ -5,7 +5,7 @@ use Rattle.std.specs.Int.{bytes_low_first, byte_at}
 use Rattle.std.proofs.lemmas.Bool.{cases_lt}
 use Rattle.std.proofs.lemmas.List.{ext_get_or, get_or_past, get_or-set_same, get_or-set_other, length-set}
 use Rattle.std.proofs.lemmas.Nat.{and_le_l}
-use Rattle.envy_chip.specs.Commands.{ChipState, upset_at}
+use Rattle.envy_bank.specs.Commands.{ChipState, upset_at}
 use Rattle.envy_bank.specs.Lanes.{lane_of, row_from, lanes_at, rows_from, AreLanes, anded, EachLane}
 use Rattle.envy_base.specs.State.{IsPage, ands}
 use Rattle.envy_bank.proofs.Words.{AreBytes}

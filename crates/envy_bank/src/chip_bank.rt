@@ -5,8 +5,8 @@ ghost use Rattle.envy_bank.specs.Rows.{IsBank, ErasesBlock, erased_bank, row_of,
 
 use crate::bank::NoMemory;
 use crate::lanes::{erase_lanes, new_lanes, program_lanes, read_lanes, upset_lanes};
+use crate::{Chip, MOST_BYTES};
 use envy_base::{PAGE_WORDS, Page, more};
-use envy_chip::{Chip, MOST_BYTES};
 use std::alloc::Global;
 use std::marker::Model;
 

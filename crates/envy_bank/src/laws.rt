@@ -1,5 +1,5 @@
 ghost use Rattle.std.specs.Prelude.{◌≡◌, ℕ, ◌/◌, ◌<◌, List, length};
-ghost use Rattle.envy_chip.specs.Commands.{upset_at};
+ghost use Rattle.envy_bank.specs.Commands.{upset_at};
 ghost use Rattle.envy_bank.specs.Lanes.{lane_of};
 ghost use Rattle.envy_base.specs.State.{IsPage, ands};
 ghost use Rattle.envy_bank.specs.Rows.{BankState, IsBank, ErasesBlock, row_of, with_row};

@@ -13,9 +13,9 @@ use Rattle.envy_begun.specs.Beginning.{HasBegun, HasOperationsOf, HasStopped, Is
 use Rattle.envy_begun.specs.Opens.{OpensAs}
 use Rattle.envy_begun.specs.Plans.{BeginsOn, IsOpened}
 use Rattle.envy_begun.specs.Unserved.{Declines, HasNoWords, Refrains}
-use Rattle.envy_begun.specs.declared.planning.Holding.TheVariants.{Written}
-use Rattle.envy_begun.specs.declared.unbegun.Unbegun.{Unbegun}
-use Rattle.envy_begun.specs.declared.unbegun.Unbegun.TheVariants.{Damaged, Failed, Memory, NoJournal}
+use Rattle.envy_begun.specs.declared.file_contents.FileContents.TheVariants.{Written}
+use Rattle.envy_begun.specs.declared.unbegun.OpenFault.{OpenFault}
+use Rattle.envy_begun.specs.declared.unbegun.OpenFault.TheVariants.{Damaged, Failed, Memory, NoJournal}
 use Rattle.envy_begun.proofs.Opening.{IsGood, opens-as}
 use Rattle.envy_calls.specs.Making.{Forbids, IsWhole}
 use Rattle.envy_calls.specs.declared.code.Code.{Code}
@@ -27,8 +27,8 @@ use Rattle.envy_journal.specs.Journal.{journal_state}
 use Rattle.envy_journal.specs.Log.{Begins}
 use Rattle.envy_journal.specs.Reading.{operations}
 use Rattle.envy_journal.specs.Snapshot.{most_of}
-use Rattle.envy_journal.specs.declared.opening.OpenError.{OpenError}
-use Rattle.envy_journal.specs.declared.opening.OpenError.TheVariants.{Failed as OpenFailed}
+use Rattle.envy_journal.specs.declared.open_error.OpenError.{OpenError}
+use Rattle.envy_journal.specs.declared.open_error.OpenError.TheVariants.{Failed as OpenFailed}
 use Rattle.envy_synced.specs.Disk.{IsCompact, IsSynced, Reopens}
 use Rattle.envy_layout.specs.Same.{Kept}
 use Rattle.envy_layout.specs.Sound.{Head, IsSound, Sound}
@@ -146,14 +146,14 @@ opens-whole sh file s o setup is whole =
     (durable (chart s), subst (λ (x : Shape). OpensAs x (durable (chart s)) file) (o.shape ∙ is) (opens-as (chart s) file good (reopens sh file s o)))
 
 -- what an audit refused
-pub audited-refrains : (sh : Shape) (file : List ℕ) (s : State) (o : IsOpened sh file s) (setup : Setup) (is : sh ≡ setup.shape) → IsBoard s → checked setup ≡ Ok tt → (unbegun : Unbegun)
+pub audited-refrains : (sh : Shape) (file : List ℕ) (s : State) (o : IsOpened sh file s) (setup : Setup) (is : sh ≡ setup.shape) → IsBoard s → checked setup ≡ Ok tt → (unbegun : OpenFault)
     → (unbegun ≡ Memory) ⊎ ((unbegun ≡ NoJournal) × (code : Code) × (code ≢ NoMemory) × Forbids code (chart s) setup) → Refrains (HasNoWords setup.shape file) file unbegun
-audited-refrains sh file s o setup is board checks unbegun (inl memory) = subst (λ (u : Unbegun). Refrains (HasNoWords setup.shape file) file u) (sym memory) tt
+audited-refrains sh file s o setup is board checks unbegun (inl memory) = subst (λ (u : OpenFault). Refrains (HasNoWords setup.shape file) file u) (sym memory) tt
 audited-refrains sh file s o setup is board checks unbegun (inr (none, code, enough, forbids)) =
-    subst (λ (u : Unbegun). Refrains (HasNoWords setup.shape file) file u) (sym none) (inr (λ words opens. not-forbidden sh file s o setup is board checks words opens code enough forbids))
+    subst (λ (u : OpenFault). Refrains (HasNoWords setup.shape file) file u) (sym none) (inr (λ words opens. not-forbidden sh file s o setup is board checks words opens code enough forbids))
 
 -- why a journal wasn't opened, or a memory attached, and the file: by what was found
-module _ {D : Type 0} (seen : D → List ℕ) (has_failed : D → Bool) (old new : D) (unbegun : Unbegun) where
+module _ {D : Type 0} (seen : D → List ℕ) (has_failed : D → Bool) (old new : D) (unbegun : OpenFault) where
   abbrev pub SaysError : OpenError → Type 0
   SaysError error = ((error ≡ OpenFailed) × (unbegun ≡ Failed 0) × (new ≡ old)) ⊎ ((error ≢ OpenFailed) × IsStopped seen has_failed unbegun new)
 
@@ -164,7 +164,7 @@ module _ {D : Type 0} (seen : D → List ℕ) (has_failed : D → Bool) (old new
   SaysFault fault held = ((fault ≡ FormatOff) × (unbegun ≡ Failed held) × (new ≡ old)) ⊎ ((fault ≢ FormatOff) × IsStopped seen has_failed unbegun new)
 
   stops-as : (held : ℕ) → unbegun ≡ Failed held → new ≡ old → HasStopped seen has_failed held old → IsStopped seen has_failed unbegun new
-  stops-as held why same stopped = subst (λ (u : Unbegun). IsStopped seen has_failed u new) (sym why) (subst (λ (x : D). HasStopped seen has_failed held x) (sym same) stopped)
+  stops-as held why same stopped = subst (λ (u : OpenFault). IsStopped seen has_failed u new) (sym why) (subst (λ (x : D). HasStopped seen has_failed held x) (sym same) stopped)
 
   -- a journal wasn't made or opened
   pub unopened-stopped : (error : OpenError) → SaysError error → (error ≡ OpenFailed → IsTrue (has_failed old)) → IsStopped seen has_failed unbegun new
@@ -198,18 +198,18 @@ opened-state b false notes sh file is o = record { head = o.head; shape = o.shap
 
 -- why a journal isn't taken up
 module _ {M D : Type 0} (seen : D → List ℕ) (has_failed : D → Bool) (Reason : Type 0) (file : List ℕ) (old : D) where
-  pub all-declines : (result : Result M (Unbegun × D)) → IfErr result (λ e. IsStopped seen has_failed e.0 e.1) → IfErr result (λ e. Declines seen has_failed Reason file old e.0 e.1)
+  pub all-declines : (result : Result M (OpenFault × D)) → IfErr result (λ e. IsStopped seen has_failed e.0 e.1) → IfErr result (λ e. Declines seen has_failed Reason file old e.0 e.1)
   all-declines (Ok memory) stopped = tt
   all-declines (Err e) stopped = inr stopped
 
 -- a reason for another
-pub refrains-for : (P Q : Type 0) (file : List ℕ) (unbegun : Unbegun) → (P → Q) → Refrains P file unbegun → Refrains Q file unbegun
+pub refrains-for : (P Q : Type 0) (file : List ℕ) (unbegun : OpenFault) → (P → Q) → Refrains P file unbegun → Refrains Q file unbegun
 refrains-for P Q file NoJournal goes r = goes r
 refrains-for P Q file (Damaged place) goes r = r
 refrains-for P Q file Memory goes r = r
 refrains-for P Q file other goes r = absurd r
 
-pub declines-for : {D : Type 0} (seen : D → List ℕ) (has_failed : D → Bool) (P Q : Type 0) (file : List ℕ) (old : D) (unbegun : Unbegun) (new : D) → (P → Q) → Declines seen has_failed P file old unbegun new → Declines seen has_failed Q file old unbegun new
+pub declines-for : {D : Type 0} (seen : D → List ℕ) (has_failed : D → Bool) (P Q : Type 0) (file : List ℕ) (old : D) (unbegun : OpenFault) (new : D) → (P → Q) → Declines seen has_failed P file old unbegun new → Declines seen has_failed Q file old unbegun new
 declines-for seen has_failed P Q file old unbegun new goes (inl (r, same)) = inl (refrains-for P Q file unbegun goes r, same)
 declines-for seen has_failed P Q file old unbegun new goes (inr stopped) = inr stopped
 

@@ -7,9 +7,9 @@ use Rattle.envy_base.specs.declared.board.Off.{Off}
 use Rattle.envy_base.specs.declared.shape.Shape.{Shape}
 use Rattle.envy_begun.specs.Left.{KeepsWords, Leaves, OpensAlike, Stays, StaysWritten}
 use Rattle.envy_begun.specs.Plans.{IsOpened}
-use Rattle.envy_begun.specs.declared.planning.Holding.{Holding}
-use Rattle.envy_begun.specs.declared.unbegun.Unbegun.{Unbegun}
-use Rattle.envy_begun.specs.declared.unbegun.Unbegun.TheVariants.{Damaged, Failed, Memory, NoJournal, NotMade, Setup, OtherVersion, OtherSizes, Options}
+use Rattle.envy_begun.specs.declared.file_contents.FileContents.{FileContents}
+use Rattle.envy_begun.specs.declared.unbegun.OpenFault.{OpenFault}
+use Rattle.envy_begun.specs.declared.unbegun.OpenFault.TheVariants.{Damaged, Failed, Memory, NoJournal, NotMade, Setup, OtherVersion, OtherSizes, Options}
 use Rattle.envy_begun.proofs.Again.{SaysAttach, attach-same, err_on}
 use Rattle.envy_begun.specs.Beginning.{IsStopped}
 use Rattle.envy_begun.specs.Unserved.{Refrains}
@@ -26,7 +26,7 @@ use Rattle.envy_journal.specs.declared.operation.Operation.{Operation}
 use Rattle.envy_layout.specs.Same.{Counted, Kept}
 use Rattle.envy_map.specs.Fields.{Chart, Fields, chart, map_fields}
 use Rattle.envy_policy.specs.declared.setup.Setup.{Setup as OfSetup}
-use Rattle.envy_saved.proofs.Reopened.{same_fields, same_sound, same_words}
+use Rattle.envy_synced.proofs.Reopened.{same_fields, same_sound, same_words}
 use Rattle.envy_synced.specs.Disk.{CrashLeaves, IsLast, IsSynced, Reopens}
 
 module _ {D : Type 0} (left_since : D → ℕ → List ℕ → Type 0) (moment : D → ℕ) where
@@ -48,11 +48,11 @@ pub no-more : {D : Type 0} (may_leave : D → List ℕ → Type 0) (moment : D �
 no-more may_leave moment left_since old new time crash now t c early left = ⊎_elim (λ past. past) (λ may. now t c early (crash c may)) (time.nothing_else t c early left)
 
 -- what is left, by what a file held
-pub all-stays : {M D : Type 0} (left_since : D → ℕ → List ℕ → Type 0) (moment : D → ℕ) (sh : Shape) (was : List ℕ) (holding held : Holding) (result : Result M (Unbegun × D)) (Such : Unbegun → List ℕ → Type 0)
-    → holding ≡ held → ((unbegun : Unbegun) (file : List ℕ) → Such unbegun file → Stays held unbegun sh was file)
+pub all-stays : {M D : Type 0} (left_since : D → ℕ → List ℕ → Type 0) (moment : D → ℕ) (sh : Shape) (was : List ℕ) (holding held : FileContents) (result : Result M (OpenFault × D)) (Such : OpenFault → List ℕ → Type 0)
+    → holding ≡ held → ((unbegun : OpenFault) (file : List ℕ) → Such unbegun file → Stays held unbegun sh was file)
     → IfErr result (λ e. Leaves left_since moment e.1 (Such e.0)) → IfErr result (λ e. Leaves left_since moment e.1 (Stays holding e.0 sh was))
 all-stays left_since moment sh was holding held result Such is goes left =
-    err_on result left (λ e l. subst (λ (h : Holding). Leaves left_since moment e.1 (Stays h e.0 sh was)) (sym is) (leaves-as left_since moment e.1 (Such e.0) (Stays held e.0 sh was) (goes e.0) l))
+    err_on result left (λ e l. subst (λ (h : FileContents). Leaves left_since moment e.1 (Stays h e.0 sh was)) (sym is) (leaves-as left_since moment e.1 (Such e.0) (Stays held e.0 sh was) (goes e.0) l))
 
 pub stands-alike : (sh : Shape) (was file : List ℕ) → StandsFor sh (operations was) file → OpensAlike sh was file
 stands-alike sh was file stands = record {
@@ -75,7 +75,7 @@ pub leaves-still : {D : Type 0} (may_leave : D → List ℕ → Type 0) (left_si
     → (Such : List ℕ → Type 0) → ((file : List ℕ) → file ≡ was → Such file) → Leaves left_since moment device Such
 leaves-still may_leave left_since moment device was only now Such same = record { since = moment device; before = omega arith; each = λ file left. ∣ same file (only file (now file left)) ∣₁ }
 
-pub still-written : (Reason : Type 0) (sh : Shape) (was : List ℕ) (unbegun : Unbegun) → Refrains Reason was unbegun → (file : List ℕ) → file ≡ was → StaysWritten unbegun sh was file
+pub still-written : (Reason : Type 0) (sh : Shape) (was : List ℕ) (unbegun : OpenFault) → Refrains Reason was unbegun → (file : List ℕ) → file ≡ was → StaysWritten unbegun sh was file
 still-written Reason sh was NoJournal r file same = same
 still-written Reason sh was (Damaged place) r file same = same
 still-written Reason sh was Memory r file same = inl same
@@ -88,7 +88,7 @@ still-written Reason sh was (Failed held) r file same = absurd r
 
 -- where a file is alike it is so also where less is said
 module _ {D : Type 0} (seen : D → List ℕ) (has_failed : D → Bool) (device : D) where
-  pub alike-stays : (sh : Shape) (was : List ℕ) (unbegun : Unbegun) → IsStopped seen has_failed unbegun device → (file : List ℕ) → OpensAlike sh was file → StaysWritten unbegun sh was file
+  pub alike-stays : (sh : Shape) (was : List ℕ) (unbegun : OpenFault) → IsStopped seen has_failed unbegun device → (file : List ℕ) → OpensAlike sh was file → StaysWritten unbegun sh was file
   alike-stays sh was (Failed held) stopped file alike = inl alike
   alike-stays sh was Memory stopped file alike = inr alike
   alike-stays sh was NotMade stopped file alike = inr alike
@@ -154,7 +154,7 @@ module _ {D : Type 0} (left_since : D → ℕ → List ℕ → Type 0) (moment :
       (λ file alike. inl alike) (λ file r. inr (kept-words sh was s t o kept file r))
 
   -- a memory wasn't attached, by the fault
-  pub fault-leaves : (seen : D → List ℕ) (has_failed : D → Bool) (setup : OfSetup) (new : D) (unbegun : Unbegun) (fault : AttachFault) (held : ℕ) → AttachDeclines s setup fault t → SaysAttach seen has_failed device new unbegun fault held
+  pub fault-leaves : (seen : D → List ℕ) (has_failed : D → Bool) (setup : OfSetup) (new : D) (unbegun : OpenFault) (fault : AttachFault) (held : ℕ) → AttachDeclines s setup fault t → SaysAttach seen has_failed device new unbegun fault held
       → moment device ≤ moment new → ((n : ℕ) (file : List ℕ) → n ≤ moment device → left_since new n file → left_since device n file) → Leaves left_since moment new (StaysWritten unbegun sh was)
   fault-leaves seen has_failed setup new unbegun fault held d says later only = leaves-on left_since moment device new (StaysWritten unbegun sh was) later only (go says)
     where
@@ -165,5 +165,5 @@ module _ {D : Type 0} (left_since : D → ℕ → List ℕ → Type 0) (moment :
           (leaves-alike (subst (λ (x : State). IsOpened sh was x) (sym same) o) (subst (λ (x : State). IsLast (chart s) (chart x)) (sym same) (record { shape = refl; sync = refl })))
 
       go : SaysAttach seen has_failed device new unbegun fault held → Leaves left_since moment device (StaysWritten unbegun sh was)
-      go (inl (off, why, goes)) = subst (λ (u : Unbegun). Leaves left_since moment device (StaysWritten u sh was)) (sym why) (off-leaves setup held (subst (λ (x : AttachFault). AttachDeclines s setup x t) off d))
+      go (inl (off, why, goes)) = subst (λ (u : OpenFault). Leaves left_since moment device (StaysWritten u sh was)) (sym why) (off-leaves setup held (subst (λ (x : AttachFault). AttachDeclines s setup x t) off d))
       go (inr (on, stopped)) = lit stopped on

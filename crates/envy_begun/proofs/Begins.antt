@@ -7,7 +7,7 @@ use Rattle.envy_base.specs.Shape.{version_of}
 use Rattle.envy_base.specs.declared.board.Off.{Off}
 use Rattle.envy_begun.specs.Beginning.{HasBegun}
 use Rattle.envy_begun.specs.Plans.{BeginsOn, ComesFrom}
-use Rattle.envy_begun.specs.declared.planning.Holding.{Holding}
+use Rattle.envy_begun.specs.declared.file_contents.FileContents.{FileContents}
 use Rattle.envy_begun.proofs.Opening.{IsGood}
 use Rattle.envy_disk.specs.Disk.{SyncsChart, with_sync}
 use Rattle.envy_synced.specs.Disk.{IsSynced}
@@ -42,7 +42,7 @@ pub still-fresh : (old new : Chart) → SyncsChart {T = Unit {0}} old (Ok tt) ne
 still-fresh old new (on, sync, is) f = subst (λ (c : Chart). IsFresh c) (sym is) (told-fresh old sync f)
 
 -- a board that is on the disk as it is
-pub begins-as-it-is : (holding : Holding) (file : List ℕ) (board : Chart) → IsSynced board → ComesFrom holding file board board → BeginsOn holding file board
+pub begins-as-it-is : (holding : FileContents) (file : List ℕ) (board : Chart) → IsSynced board → ComesFrom holding file board board → BeginsOn holding file board
 begins-as-it-is holding file board synced comes = record { was = board; synced = synced; last = record { shape = refl; sync = refl }; comes = comes }
 
 pub err-off : (old new : Chart) (off : Off) → SyncsChart {T = Unit {0}} old (Err off) new → new.on ≡ false

@@ -13,8 +13,8 @@ use Rattle.envy_begun.specs.Left.{IsUnformatted, Leaves, OpensAsZeros, StaysNew}
 use Rattle.envy_begun.specs.Beginning.{IsStopped}
 use Rattle.envy_begun.specs.Unserved.{Refrains}
 use Rattle.envy_begun.specs.Opens.{OpensAs}
-use Rattle.envy_begun.specs.declared.unbegun.Unbegun.{Unbegun}
-use Rattle.envy_begun.specs.declared.unbegun.Unbegun.TheVariants.{Damaged, Failed, Memory, NoJournal, NotMade, Setup, OtherVersion, OtherSizes, Options}
+use Rattle.envy_begun.specs.declared.unbegun.OpenFault.{OpenFault}
+use Rattle.envy_begun.specs.declared.unbegun.OpenFault.TheVariants.{Damaged, Failed, Memory, NoJournal, NotMade, Setup, OtherVersion, OtherSizes, Options}
 use Rattle.envy_begun.proofs.Again.{SaysFault}
 use Rattle.envy_begun.proofs.Alike.{leaves-as, leaves-on}
 use Rattle.envy_begun.proofs.Opening.{opens-as}
@@ -34,7 +34,7 @@ use Rattle.envy_synced.specs.Disk.{CrashLeaves, IsLast, IsSynced, Reopens}
 
 -- where nothing was done in a journal it is so also where less is said
 module _ {D : Type 0} (seen : D → List ℕ) (has_failed : D → Bool) (device : D) where
-  pub stands-stays : (sh : Shape) (was : List ℕ) (unbegun : Unbegun) → IsStopped seen has_failed unbegun device → (file : List ℕ) → StandsFor sh [] file → StaysNew unbegun sh was file
+  pub stands-stays : (sh : Shape) (was : List ℕ) (unbegun : OpenFault) → IsStopped seen has_failed unbegun device → (file : List ℕ) → StandsFor sh [] file → StaysNew unbegun sh was file
   stands-stays sh was (Failed held) stopped file stands = inl stands
   stands-stays sh was Memory stopped file stands = inr stands
   stands-stays sh was NotMade stopped file stands = inr stands
@@ -46,11 +46,11 @@ module _ {D : Type 0} (seen : D → List ℕ) (has_failed : D → Bool) (device 
   stands-stays sh was (Damaged place) stopped file stands = absurd stopped
 
   -- what creating a journal may leave
-  pub new-stays : (made sh : Shape) → made ≡ sh → (unbegun : Unbegun) → IsStopped seen has_failed unbegun device → (file : List ℕ) → IsNewOrUnmade made file → IsUnmade file ⊎ StaysNew unbegun sh [] file
+  pub new-stays : (made sh : Shape) → made ≡ sh → (unbegun : OpenFault) → IsStopped seen has_failed unbegun device → (file : List ℕ) → IsNewOrUnmade made file → IsUnmade file ⊎ StaysNew unbegun sh [] file
   new-stays made sh is unbegun stopped file (inl unmade) = inl unmade
   new-stays made sh is unbegun stopped file (inr stands) = inr (stands-stays sh [] unbegun stopped file (subst (λ (x : Shape). StandsFor x [] file) is stands))
 
-pub still-new : (Reason : Type 0) (sh : Shape) (was : List ℕ) (unbegun : Unbegun) → Refrains Reason was unbegun → (file : List ℕ) → file ≡ was → StaysNew unbegun sh was file
+pub still-new : (Reason : Type 0) (sh : Shape) (was : List ℕ) (unbegun : OpenFault) → Refrains Reason was unbegun → (file : List ℕ) → file ≡ was → StaysNew unbegun sh was file
 still-new Reason sh was NoJournal r file same = same
 still-new Reason sh was (Damaged place) r file same = same
 still-new Reason sh was Memory r file same = inl same
@@ -142,12 +142,12 @@ module _ {D : Type 0} (left_since : D → ℕ → List ℕ → Type 0) (moment :
   format-on setup fault other r = lit-leaves left_since moment sh device (chart s) (chart t) synced none is last crash (refused-on s t setup fault other r)
 
   -- a memory wasn't formatted
-  pub format-leaves : (before : List ℕ) (seen : D → List ℕ) (has_failed : D → Bool) (setup : OfSetup) (new : D) (unbegun : Unbegun) (fault : FormatFault) (held : ℕ) → Refuses s setup fault t → SaysFault seen has_failed device new unbegun fault held
+  pub format-leaves : (before : List ℕ) (seen : D → List ℕ) (has_failed : D → Bool) (setup : OfSetup) (new : D) (unbegun : OpenFault) (fault : FormatFault) (held : ℕ) → Refuses s setup fault t → SaysFault seen has_failed device new unbegun fault held
       → moment device ≤ moment new → ((n : ℕ) (file : List ℕ) → n ≤ moment device → left_since new n file → left_since device n file) → Leaves left_since moment new (StaysNew unbegun sh before)
   format-leaves before seen has_failed setup new unbegun fault held r says later only = leaves-on left_since moment device new (StaysNew unbegun sh before) later only (go says)
     where
       go : SaysFault seen has_failed device new unbegun fault held → Leaves left_since moment device (StaysNew unbegun sh before)
-      go (inl (off, why, goes)) = subst (λ (u : Unbegun). Leaves left_since moment device (StaysNew u sh before)) (sym why) (format-off before setup held (subst (λ (f : FormatFault). Refuses s setup f t) off r))
+      go (inl (off, why, goes)) = subst (λ (u : OpenFault). Leaves left_since moment device (StaysNew u sh before)) (sym why) (format-off before setup held (subst (λ (f : FormatFault). Refuses s setup f t) off r))
       go (inr (other, stopped)) = leaves-as left_since moment device (StandsFor sh []) (StaysNew unbegun sh before) (stands-stays seen has_failed new sh before unbegun stopped) (format-on setup fault other r)
 
 pub off-refused : (s t : State) (setup : OfSetup) (fault : FormatFault) → Refuses s setup fault t → fault ≡ FormatOff → t.on ≡ false

@@ -10,7 +10,7 @@ use Rattle.envy_layout.specs.Sound.{IsSound}
 use Rattle.envy_layout.specs.Words.{durable}
 use Rattle.envy_map.specs.Codes.{the_magic}
 use Rattle.envy_map.specs.Fields.{Chart, Fields}
-use Rattle.envy_saved.proofs.Reopened.{same_fields, same_sound, same_words}
+use Rattle.envy_synced.proofs.Reopened.{same_fields, same_sound, same_words}
 
 -- formatted in the newest version of its shape, and sound
 pub record IsGood (c : Chart) : Type 0 where

@@ -2,8 +2,8 @@
 use Rattle.std.specs.Prelude.{◌≡◌, ℕ, ◌+◌, ◌^◌, ◌<◌, ◌≤◌, IsTrue, Bool, false, List, ◌∷◌, length}
 use Rattle.envy_base.specs.Shape.{version_of}
 use Rattle.envy_array.specs.Array.{Array, undone}
-use Rattle.envy_begun.specs.declared.unbegun.Unbegun.{Unbegun}
-use Rattle.envy_begun.specs.declared.unbegun.Unbegun.TheVariants.{Failed, Memory, NotMade}
+use Rattle.envy_begun.specs.declared.unbegun.OpenFault.{OpenFault}
+use Rattle.envy_begun.specs.declared.unbegun.OpenFault.TheVariants.{Failed, Memory, NotMade}
 use Rattle.envy_journal.specs.Held.{most_held}
 use Rattle.envy_journal.specs.Reading.{operations}
 use Rattle.envy_synced.specs.Disk.{IsLast, IsSynced}
@@ -40,7 +40,7 @@ HasStopped seen has_failed held device = (held ≤ most_held) × (length (seen d
 
 -- why a new memory isn't there: the file stopped, or memory ran out or no second file was made and the last call on the file
 -- was done
-abbrev pub IsStopped : {D : Type 0} → (D → List ℕ) → (D → Bool) → Unbegun → D → Type 0
+abbrev pub IsStopped : {D : Type 0} → (D → List ℕ) → (D → Bool) → OpenFault → D → Type 0
 IsStopped seen has_failed (Failed held) device = HasStopped seen has_failed held device
 IsStopped seen has_failed Memory device = has_failed device ≡ false
 IsStopped seen has_failed NotMade device = has_failed device ≡ false

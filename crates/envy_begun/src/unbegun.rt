@@ -7,7 +7,7 @@ use envy_policy::SetupFault;
 
 /// Why there is no memory to serve.
 #[derive(Clone, Copy, Debug, PartialEq, Eq)]
-pub enum Unbegun {
+pub enum OpenFault {
     /// The options break this rule of a setup, and the file is new.
     Setup(SetupFault),
     /// What the file holds is no journal of a memory.
@@ -28,22 +28,22 @@ pub enum Unbegun {
     Failed(usize),
 }
 
-impl Unbegun {
+impl OpenFault {
     /// The exit status, and the second number.
     pub fn numbers(self) -> (u8, u8)
         ensures status { result.0 ≡ status_for self }
         ensures why { result.1 ≡ why_for self }
     {
         match self {
-            Unbegun::Setup(fault) => (2, rule_within(MOST_ROWS, &fault)),
-            Unbegun::NoJournal => (10, 6),
-            Unbegun::OtherVersion => (10, 7),
-            Unbegun::OtherSizes => (10, 8),
-            Unbegun::Options(_) => (10, 9),
-            Unbegun::Damaged(_) => (10, 10),
-            Unbegun::Memory => (8, 0),
-            Unbegun::NotMade => (11, 3),
-            Unbegun::Failed(_) => (6, 0),
+            OpenFault::Setup(fault) => (2, rule_within(MOST_ROWS, &fault)),
+            OpenFault::NoJournal => (10, 6),
+            OpenFault::OtherVersion => (10, 7),
+            OpenFault::OtherSizes => (10, 8),
+            OpenFault::Options(_) => (10, 9),
+            OpenFault::Damaged(_) => (10, 10),
+            OpenFault::Memory => (8, 0),
+            OpenFault::NotMade => (11, 3),
+            OpenFault::Failed(_) => (6, 0),
         }
     }
 
@@ -52,7 +52,7 @@ impl Unbegun {
         ensures { result ≡ held_for self }
     {
         match self {
-            Unbegun::Failed(held) => held,
+            OpenFault::Failed(held) => held,
             _ => 0,
         }
     }
@@ -62,7 +62,7 @@ impl Unbegun {
         ensures { result ≡ place_for self }
     {
         match self {
-            Unbegun::Damaged(place) => place,
+            OpenFault::Damaged(place) => place,
             _ => 0,
         }
     }

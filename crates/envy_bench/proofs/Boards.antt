@@ -6,13 +6,11 @@ use Rattle.envy_base.specs.declared.shape.Shape.{Shape}
 use Rattle.envy_base.specs.declared.board.Trouble.{Trouble}
 use Rattle.envy_base.specs.declared.board.Trouble.TheVariants.{Off as TroubleOff, Bad as TroubleBad}
 use Rattle.envy_base.specs.State.{State, AreWords, IsPage, IsOnes, Only, Programs, Erases, cut, with_row, with_segment}
-use Rattle.envy_bank.specs.Rows.{BankState, IsBank, ErasesBlock}
+use Rattle.envy_bank.specs.Rows.{BankState, IsBank, ErasesBlock, with_row as bank_with_row}
 use Rattle.envy_base.specs.Counting.{up}
-use Rattle.envy_bank.specs.Rows.{with_row as bank_with_row}
-use Rattle.envy_power.specs.declared.supply.Event.{Event}
-use Rattle.envy_power.specs.declared.supply.Event.TheVariants.{Pass, Cut, Bad}
-use Rattle.envy_power.specs.Power.{Power, flash_event, flash_counted, struck}
-use Rattle.envy_power.specs.Power.{up as power_up, cut as power_cut}
+use Rattle.envy_bench.specs.declared.supply.Event.{Event}
+use Rattle.envy_bench.specs.declared.supply.Event.TheVariants.{Pass, Cut, Bad}
+use Rattle.envy_bench.specs.Power.{Power, flash_event, flash_counted, struck, up as power_up, cut as power_cut}
 use Rattle.envy_bench.specs.declared.plans.Plans.{Plans}
 use Rattle.envy_bench.specs.Parts.{state_of}
 use Rattle.envy_bench.specs.TornRows.{torn_row, TearsRows}

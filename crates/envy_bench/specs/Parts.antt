@@ -4,7 +4,7 @@ use Rattle.envy_base.specs.declared.shape.Shape.{Shape}
 use Rattle.envy_base.specs.State.{State, no_notes, ones}
 use Rattle.envy_base.specs.Map.{words_of}
 use Rattle.envy_bank.specs.Rows.{BankState}
-use Rattle.envy_power.specs.Power.{Power}
+use Rattle.envy_bench.specs.Power.{Power}
 use Rattle.envy_bench.specs.declared.plans.Plans.{Plans}
 
 abbrev pub state_of : Shape → BankState → List ℕ → Power → ℕ → ℕ → Plans → ℕ → State

@@ -2,8 +2,7 @@
 
 use crate::told::same_at;
 use envy_base::{Bench, Board, Off, Shape, Trouble};
-use envy_bench::MemBoard;
-use envy_power::Torn;
+use envy_bench::{MemBoard, Torn};
 use std::process::Abort;
 
 /// A page by what it is.

@@ -1,7 +1,7 @@
 //! The supply of power: its plans and its lives, the words of a torn page, and SRAM that it keeps.
 
 use crate::told::same_at;
-use envy_power::{Event, Sram, Supply, Torn};
+use envy_bench::{Event, Sram, Supply, Torn};
 use std::process::Abort;
 
 /// The first three words of the page that is torn by a number, made with an independent program.

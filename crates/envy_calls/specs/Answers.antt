@@ -23,7 +23,7 @@ use Rattle.envy_memory.specs.declared.faults.EndFault.{EndFault}
 use Rattle.envy_memory.specs.declared.faults.EndFault.TheVariants.{Off as EndOff, Closed as EndClosed}
 use Rattle.envy_calls.specs.Codes.{number_of, load_code, store_code, begin_code, put_code, end_code, tick_code, loaded, store_holder, opened, put_holder, worked}
 use Rattle.envy_calls.specs.declared.code.Code.TheVariants.{Done, Empty}
-use Rattle.envy_calls.specs.declared.counting.EnvyCounts.{EnvyCounts}
+use Rattle.envy_calls.specs.declared.counters.EnvyCounts.{EnvyCounts}
 
 -- slots are numbered from 0 to 63, and no other number names one
 abbrev pub slot_named : ℕ → ℕ

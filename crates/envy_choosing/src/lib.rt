@@ -4,8 +4,8 @@
 //! with the logarithm of the segments.
 #![tactic(auto)]
 
-mod choosing;
+mod choice;
 mod pooled;
 
-pub use choosing::{choose_row, free_beside};
+pub use choice::{choose_row, free_beside};
 pub use pooled::beside_job;

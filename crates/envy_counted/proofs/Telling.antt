@@ -5,7 +5,7 @@ use Rattle.envy_base.specs.declared.board.Off.{Off}
 use Rattle.envy_base.specs.declared.board.Trouble.TheVariants.{Off as TroubleOff, Bad}
 use Rattle.envy_base.specs.Counting.{Rose, up}
 use Rattle.envy_base.specs.State.{State}
-use Rattle.envy_counted.specs.AnyBoard.{AnyPuts, AnyPrograms, AnyErases}
+use Rattle.envy_counted.specs.LooseBoard.{AnyPuts, AnyPrograms, AnyErases}
 
 up-low : (told own then_own : ℕ) → told ≤ own → own < then_own → up told ≤ then_own
 unfolding up

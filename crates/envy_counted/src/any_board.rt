@@ -1,7 +1,7 @@
 ghost use Rattle.std.specs.Prelude.{◌≡◌, ◌<◌, ◌≤◌, ◌↔◌, ℕ, false, IsTrue, IfOk, length, slice_index, if◌then◌else◌};
 ghost use Rattle.envy_base.specs.Shape.{IsShape};
 ghost use Rattle.envy_base.specs.State.{State, IsBoard, Reads, row_of, pull, lit, planned};
-ghost use Rattle.envy_counted.specs.AnyBoard.{AnyPuts, AnyPrograms, AnyErases, IsAnyMade};
+ghost use Rattle.envy_counted.specs.LooseBoard.{AnyPuts, AnyPrograms, AnyErases, IsAnyMade};
 
 use envy_base::{NoMemory, Off, PAGE_WORDS, Page, PlannedFault, Shape, Trouble};
 use std::alloc::Global;
@@ -9,7 +9,7 @@ use std::alloc::Global;
 /// A board that keeps the least that is asked of one: flash in rows of one page, battery-backed SRAM
 /// in words of 64 bits, and power that may fail inside `program`, `erase` and `put`. Where an operation
 /// fails its count of such failures rises, by whatever number; where one succeeds they may rise too.
-pub trait AnyBoard {
+pub trait LooseBoard {
     ghost state: { Self → State };
 
     /// The sizes, which never change.
@@ -50,7 +50,7 @@ pub trait AnyBoard {
 }
 
 /// Such a board whose power and operations a test may make fail.
-pub trait AnyBench: AnyBoard {
+pub trait LooseBench: LooseBoard {
     /// Plans a cut of power at the `k`-th device operation from now, in place of an earlier such plan.
     fn arm_cut(&mut self, k: u32, g: u64)
         requires { 1 ≤ k }
@@ -78,11 +78,11 @@ pub trait AnyBench: AnyBoard {
 }
 
 /// Makes such boards.
-pub trait AnyMaker {
-    type Made: AnyBench;
+pub trait LooseMaker {
+    type Made: LooseBench;
 
     /// A board of the shape with so many lives, power on. Its flash and SRAM may hold anything.
     fn make(&mut self, alloc: Global, shape: &Shape, lives: u32) -> Result<Self::Made, NoMemory>
         requires { IsShape shape.now }
-        ensures { IfOk result (λ board. IsAnyMade shape.now lives (Self.Made.AnyBoard.state board)) };
+        ensures { IfOk result (λ board. IsAnyMade shape.now lives (Self.Made.LooseBoard.state board)) };
 }

@@ -1,13 +1,13 @@
 ghost use Rattle.std.specs.Prelude.{◌≡◌, ◌≤◌};
-ghost use Rattle.envy_counted.specs.AnyBoard.{with_failures};
-ghost use Rattle.envy_counted.specs.Counted.{TellsNoMore};
+ghost use Rattle.envy_counted.specs.LooseBoard.{with_failures};
+ghost use Rattle.envy_counted.specs.StrictBoard.{TellsNoMore};
 
-use crate::{AnyBench, AnyBoard};
+use crate::{LooseBench, LooseBoard};
 use envy_base::{Bench, Board, Off, Page, Shape, Trouble, more};
 
 /// A board over any: its counts of failures are those of the answers that it gave.
 #[derive(Drop)]
-pub struct Counted<B: AnyBoard> {
+pub struct StrictBoard<B: LooseBoard> {
     board: B,
     cuts: u64,
     bads: u64,
@@ -15,12 +15,12 @@ pub struct Counted<B: AnyBoard> {
     ghost bads_told: { bads ≤ (B.state board).bads },
 }
 
-impl<B: AnyBoard> Counted<B> {
+impl<B: LooseBoard> StrictBoard<B> {
     /// The board, with no failure told yet.
-    pub fn over(board: B) -> Counted<B>
-        ensures { ⟦<Counted<B> as Board>⟧.state result ≡ with_failures (B.state board) 0 0 }
+    pub fn over(board: B) -> StrictBoard<B>
+        ensures { ⟦<StrictBoard<B> as Board>⟧.state result ≡ with_failures (B.state board) 0 0 }
     {
-        Counted {
+        StrictBoard {
             board,
             cuts: 0,
             bads: 0,
@@ -29,29 +29,29 @@ impl<B: AnyBoard> Counted<B> {
 
     /// How many failures of power were told, at most 2^64 - 1.
     pub fn cuts(&self) -> u64
-        ensures { result ≡ (⟦<Counted<B> as Board>⟧.state self.now).cuts }
+        ensures { result ≡ (⟦<StrictBoard<B> as Board>⟧.state self.now).cuts }
     {
         self.cuts
     }
 
     /// How many bad operations were told, at most 2^64 - 1.
     pub fn bads(&self) -> u64
-        ensures { result ≡ (⟦<Counted<B> as Board>⟧.state self.now).bads }
+        ensures { result ≡ (⟦<StrictBoard<B> as Board>⟧.state self.now).bads }
     {
         self.bads
     }
 
     /// The board itself, which counted each failure that was told, and maybe more.
     pub fn board(&self) -> &B
-        ensures same { ⟦<Counted<B> as Board>⟧.state self.now ≡ with_failures (B.state result.now)
-            (⟦<Counted<B> as Board>⟧.state self.now).cuts (⟦<Counted<B> as Board>⟧.state self.now).bads }
-        ensures fewer { TellsNoMore (⟦<Counted<B> as Board>⟧.state self.now) (B.state result.now) }
+        ensures same { ⟦<StrictBoard<B> as Board>⟧.state self.now ≡ with_failures (B.state result.now)
+            (⟦<StrictBoard<B> as Board>⟧.state self.now).cuts (⟦<StrictBoard<B> as Board>⟧.state self.now).bads }
+        ensures fewer { TellsNoMore (⟦<StrictBoard<B> as Board>⟧.state self.now) (B.state result.now) }
     {
         &self.board
     }
 }
 
-impl<B: AnyBoard> Board for Counted<B> {
+impl<B: LooseBoard> Board for StrictBoard<B> {
     ghost state = { λ b. with_failures (B.state b.board) b.cuts b.bads };
 
     ghost lawful = { λ b. let law = B.lawful b.board in
@@ -117,7 +117,7 @@ impl<B: AnyBoard> Board for Counted<B> {
     }
 }
 
-impl<B: AnyBench> Bench for Counted<B> {
+impl<B: LooseBench> Bench for StrictBoard<B> {
     fn arm_cut(&mut self, k: u32, g: u64) {
         self.board.arm_cut(k, g);
     }

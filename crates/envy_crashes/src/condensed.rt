@@ -1,7 +1,7 @@
 // A journal that isn't synced for long, whose log is condensed, and whose machine crashes then.
 use crate::crashes::{NO_ROOM, SHAPE, SIZES, act, reopened, wanted};
-use envy_cells::OwnedBoard;
 use envy_journal::create;
+use envy_region::OwnedBoard;
 use envy_torn::{Dice, TornFile};
 use std::alloc::Global;
 use std::process::Abort;

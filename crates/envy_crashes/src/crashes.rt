@@ -1,6 +1,6 @@
 use envy_base::{Board, Shape};
-use envy_cells::OwnedBoard;
 use envy_journal::{HeadError, Journaled, OpenError, create, open, read_head};
+use envy_region::OwnedBoard;
 use envy_torn::{Dice, TornFile};
 use std::alloc::Global;
 use std::process::Abort;

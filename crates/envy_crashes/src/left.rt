@@ -4,8 +4,8 @@ ghost use Rattle.envy_device.specs.Device.{Only};
 ghost use Rattle.envy_torn.specs.Torn.{file_bytes, file_outcome};
 
 use crate::crashes::{MOST_CALLS, NO_ROOM, ROOM, SESSION, SHAPE, SIZES, act, reopened, run, words};
-use envy_cells::OwnedBoard;
 use envy_journal::{open, read_head};
+use envy_region::OwnedBoard;
 use envy_torn::{Dice, LeftFile, TornFile};
 use std::alloc::Global;
 use std::process::Abort;

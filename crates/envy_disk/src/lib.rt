@@ -3,4 +3,4 @@
 
 mod on_disk;
 
-pub use on_disk::{Compaction, OnDisk};
+pub use on_disk::{Compaction, Durable};

@@ -16,7 +16,7 @@ pub enum Compaction {
 
 /// A board that can be brought to a disk. Its notes, which no call of a memory changes, tell what its last two syncs brought
 /// there.
-pub trait OnDisk: Board {
+pub trait Durable: Board {
     /// What the last sync brought to the disk is what the board holds.
     ghost is_synced: { Chart → Type 0 };
 

@@ -3,30 +3,30 @@
 #![tactic(auto)]
 
 mod beside;
-mod bringing;
-mod claiming;
-mod cleaning;
+mod claim;
+mod cleaner;
 mod did;
-mod ending;
-mod finishing;
-mod flushing;
+mod first_put;
+mod flush;
 mod homes;
+mod job_rest;
 mod jobs;
 mod page;
+mod page_fill;
 mod parts;
-mod programming;
-mod putting;
-mod restarting;
+mod recovery;
+mod row_copy;
 mod rows;
-mod shading;
-mod storing;
-mod ticking;
+mod shadow;
+mod slots;
+mod store;
+mod tick;
 
 pub use did::Did;
-pub use ending::{abort_pages, commit_pages, first_vacant, is_open, open_slot};
+pub use first_put::put_first;
 pub use page::word;
 pub use parts::Parts;
-pub use putting::put_first;
-pub use restarting::{rebuild, restart};
-pub use storing::store_word;
-pub use ticking::tick_ruled;
+pub use recovery::{rebuild, restart};
+pub use slots::{abort_pages, commit_pages, first_vacant, is_open, open_slot};
+pub use store::store_word;
+pub use tick::tick_ruled;

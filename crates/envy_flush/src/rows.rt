@@ -8,9 +8,9 @@ ghost use Rattle.envy_layout.specs.Power.{power_of, power_after};
 ghost use Rattle.envy_base.specs.Shape.{positions_of};
 
 use crate::beside::usable;
-use crate::claiming::claim_at;
-use crate::cleaning::clean;
-use crate::finishing::finish;
+use crate::claim::claim_at;
+use crate::cleaner::clean;
+use crate::job_rest::finish;
 use crate::jobs::runs;
 use crate::parts::Parts;
 use envy_base::{Board, Job, Off, Trouble};

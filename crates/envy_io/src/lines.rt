@@ -10,9 +10,9 @@ use arrayvec::ArrayVec;
 use memchr::memchr;
 use std::marker::Model;
 
-mod fetching;
+mod next_bytes;
 
-pub use fetching::Got;
+pub use next_bytes::Got;
 
 /// The most bytes that a line has before its newline.
 const LINE: usize = 120;

@@ -17,9 +17,9 @@ use Rattle.envy_meaning.specs.Stands.{Holds, Stands}
 use Rattle.envy_layout.specs.Words.{durable}
 use Rattle.envy_map.specs.Fields.{Chart, failed}
 use Rattle.envy_memory.specs.Picture.{Picture}
-use Rattle.envy_keep_trace.specs.declared.keep_reply.KeepReply.{KeepReply}
-use Rattle.envy_serve.specs.declared.serving.End.{End}
-use Rattle.envy_serve.specs.declared.serving.End.TheVariants.{Done as EndDone, ReadFault, WriteFault, FlushFault, Refused, Dead as EndDead, TooLong}
+use Rattle.envy_trace.specs.declared.keep_reply.KeepReply.{KeepReply}
+use Rattle.envy_serve.specs.declared.server.End.{End}
+use Rattle.envy_serve.specs.declared.server.End.TheVariants.{Done as EndDone, ReadFault, WriteFault, FlushFault, Refused, Dead as EndDead, TooLong}
 use Rattle.envy_serve.specs.Ends.{Ends, HasServed, Serves}
 use Rattle.envy_serve.specs.Streams.{Streams}
 use Rattle.envy_serve.proofs.Advancing.{Serves-as}

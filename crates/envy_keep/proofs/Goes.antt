@@ -21,14 +21,14 @@ use Rattle.envy_trace.specs.declared.line.Line.{Line}
 use Rattle.envy_trace.specs.declared.line.Line.TheVariants.{Empty, Load, Look, Store, Begin, Put, Commit, Abort, Tick, Power, Cut, Bad, Stat}
 use Rattle.envy_trace.specs.declared.reply.Reply.{Reply}
 use Rattle.envy_trace.specs.declared.reply.Reply.TheVariants.{Lost}
-use Rattle.envy_keep_trace.specs.declared.keep_line.KeepLine.{KeepLine}
-use Rattle.envy_keep_trace.specs.declared.keep_line.KeepLine.TheVariants.{Trace, Sync}
-use Rattle.envy_keep_trace.specs.declared.keep_reply.KeepReply.{KeepReply}
-use Rattle.envy_keep_trace.specs.declared.keep_reply.KeepReply.TheVariants.{Trace as TraceReply, Synced}
-use Rattle.envy_keep_trace.specs.Keep.{IsKeepLine, keep_bytes}
-use Rattle.envy_saved.proofs.Reopened.{last_stays}
+use Rattle.envy_trace.specs.declared.keep_line.KeepLine.{KeepLine}
+use Rattle.envy_trace.specs.declared.keep_line.KeepLine.TheVariants.{Trace, Sync}
+use Rattle.envy_trace.specs.declared.keep_reply.KeepReply.{KeepReply}
+use Rattle.envy_trace.specs.declared.keep_reply.KeepReply.TheVariants.{Trace as TraceReply, Synced}
+use Rattle.envy_trace.specs.Keep.{IsKeepLine, keep_bytes}
+use Rattle.envy_synced.proofs.Reopened.{last_stays}
 use Rattle.envy_serve.specs.Obeys.{Obeys}
-use Rattle.envy_serve.specs.declared.service.Obeyed.TheVariants.{Done, WriteFault, Dead}
+use Rattle.envy_serve.specs.declared.service.LineOutcome.TheVariants.{Done, WriteFault, Dead}
 use Rattle.envy_serve.specs.Streams.{Written, FrontWritten}
 use Rattle.envy_serve.specs.Turns.{texts}
 use Rattle.envy_run.specs.Answers.{AnswersTo, LosesIn, line_beside}
@@ -39,8 +39,8 @@ use Rattle.envy_run.specs.Tells.{Telling}
 use Rattle.envy_run.proofs.Hitting.{telling-more}
 use Rattle.envy_run.proofs.Noting.{notes-empty}
 use Rattle.envy_run.proofs.Obeying.{answered}
-use Rattle.envy_run.specs.declared.answers.Beside.{Beside}
-use Rattle.envy_run.specs.declared.answers.Beside.TheVariants.{Nothing, Power as OfPower, Plan as OfPlan}
+use Rattle.envy_run.specs.declared.answers.BoardRequest.{BoardRequest}
+use Rattle.envy_run.specs.declared.answers.BoardRequest.TheVariants.{Nothing, Power as OfPower, PlannedFault as OfPlan}
 use Rattle.envy_base.specs.declared.faults.PlannedFault.TheVariants.{Cut as PlanCut, Bad as PlanBad}
 use Rattle.envy_keep.specs.Answers.{AnswersKeep, SyncsTo, TraceAnswers}
 use Rattle.envy_keep.specs.Playing.{ShowsMemory}
@@ -267,7 +267,7 @@ pub obeys-empty : (start : Start) (p : Picture) (turns : List KeepTurn) (line : 
 obeys-empty start p turns line sink is t = subst (λ (l : KeepLine). Obeys Done keep_grammar (KeptSince start p) (LostSince start p) turns l sink sink) (sym is) ([], still start p turns t, record { whole = sym (with_end-nil sink.written); faults = omega arith })
 
 -- a line that asks for something beside the memory's calls is empty: the grammar has no other
-pub empty-beside : (line : KeepLine) (other : Beside) → IsKeepLine line → line ≡ Trace (line_beside other) → line ≡ Trace Empty
+pub empty-beside : (line : KeepLine) (other : BoardRequest) → IsKeepLine line → line ≡ Trace (line_beside other) → line ≡ Trace Empty
 empty-beside line Nothing ranges is = is
 empty-beside line OfPower ranges is = absurd (subst IsKeepLine is ranges)
 empty-beside line (OfPlan (PlanCut k g)) ranges is = absurd (subst IsKeepLine is ranges)

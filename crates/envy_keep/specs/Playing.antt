@@ -6,10 +6,10 @@ use Rattle.envy_map.specs.Fields.{Chart, failed}
 use Rattle.envy_memory.specs.Picture.{IsMemory, Picture}
 use Rattle.envy_trace.specs.declared.line.Line.TheVariants.{Empty}
 use Rattle.envy_trace.specs.declared.reply.Reply.{Reply}
-use Rattle.envy_keep_trace.specs.declared.keep_line.KeepLine.{KeepLine}
-use Rattle.envy_keep_trace.specs.declared.keep_line.KeepLine.TheVariants.{Trace, Sync}
-use Rattle.envy_keep_trace.specs.declared.keep_reply.KeepReply.{KeepReply}
-use Rattle.envy_keep_trace.specs.declared.keep_reply.KeepReply.TheVariants.{Trace as TraceReply, Synced}
+use Rattle.envy_trace.specs.declared.keep_line.KeepLine.{KeepLine}
+use Rattle.envy_trace.specs.declared.keep_line.KeepLine.TheVariants.{Trace, Sync}
+use Rattle.envy_trace.specs.declared.keep_reply.KeepReply.{KeepReply}
+use Rattle.envy_trace.specs.declared.keep_reply.KeepReply.TheVariants.{Trace as TraceReply, Synced}
 use Rattle.envy_serve.specs.Turns.{Leads}
 use Rattle.envy_synced.specs.Disk.{IsLast}
 use Rattle.envy_run.specs.Below.{FollowsRules, WorksOf}

@@ -12,8 +12,8 @@ use Rattle.envy_map.specs.Fields.{Chart}
 use Rattle.envy_memory.specs.Picture.{Picture}
 use Rattle.envy_trace.specs.declared.fault.LineFault.TheVariants.{Long}
 use Rattle.envy_trace.specs.declared.reply.Reply.TheVariants.{Lost}
-use Rattle.envy_keep_trace.specs.declared.keep_reply.KeepReply.TheVariants.{Trace as TraceReply}
-use Rattle.envy_keep_trace.specs.Keep.{keep_line_of}
+use Rattle.envy_trace.specs.declared.keep_reply.KeepReply.TheVariants.{Trace as TraceReply}
+use Rattle.envy_trace.specs.Keep.{keep_line_of}
 use Rattle.envy_run.specs.Tells.{Telling}
 use Rattle.envy_run.specs.Tracing.{Start as RunStart}
 use Rattle.envy_keep.specs.Playing.{IsOnDisk, LosesBelow, Plays}

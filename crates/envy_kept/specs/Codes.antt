@@ -1,7 +1,7 @@
 -- The numbers of what calls on a memory in a file answer. No two answers share one.
 use Rattle.std.specs.Prelude.{ℕ}
-use Rattle.envy_begun.specs.declared.unbegun.Unbegun.{Unbegun}
-use Rattle.envy_begun.specs.declared.unbegun.Unbegun.TheVariants as unbegun
+use Rattle.envy_begun.specs.declared.unbegun.OpenFault.{OpenFault}
+use Rattle.envy_begun.specs.declared.unbegun.OpenFault.TheVariants as unbegun
 use Rattle.envy_calls.specs.Codes.{number_of}
 use Rattle.envy_calls.specs.declared.code.Code.TheVariants.{NoMemory, Off, OtherShape, Setup}
 use Rattle.envy_kept.specs.declared.code.KeptCode.{KeptCode}
@@ -15,7 +15,7 @@ number_of_kept Damaged = 74
 number_of_kept Appended = 75
 
 -- the answer where no memory began in a file
-abbrev pub code_of_unbegun : Unbegun → KeptCode
+abbrev pub code_of_unbegun : OpenFault → KeptCode
 code_of_unbegun (unbegun.Setup fault) = Of (Setup fault)
 code_of_unbegun unbegun.NoJournal = NoJournal
 code_of_unbegun unbegun.OtherVersion = OtherVersion

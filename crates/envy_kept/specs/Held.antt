@@ -6,13 +6,13 @@ use denote.Ref.{MutRef}
 use mir.Syntax.{named}
 use base.Fml.{Fml, ftrue}
 use Rattle.std.specs.contracts.option.Option as option
-use Rattle.envy_cells.specs.contracts.owned.CellBoard as cell_board
-use Rattle.envy_cells.specs.contracts.owned.CellBoardBoard.TheImpl as cells
-use Rattle.envy_cells.specs.contracts.steady.CellBoardSteady.TheImpl as steady
+use Rattle.envy_region.specs.contracts.owned.CellBoard as cell_board
+use Rattle.envy_region.specs.contracts.owned.CellBoardBoard.TheImpl as cells
+use Rattle.envy_journal.specs.contracts.steady.CellBoardSteady.TheImpl as steady
 use Rattle.envy_portfile.specs.contracts.port.FilePort as file_port
-use Rattle.envy_portfile.specs.contracts.port.FilePortRawFile.TheImpl as raw
-use Rattle.envy_record.specs.contracts.recorded.Recorded as recorded
-use Rattle.envy_record.specs.contracts.recorded.RecordedDevice.TheImpl as device
+use Rattle.envy_portfile.specs.contracts.port.FilePortFileCalls.TheImpl as raw
+use Rattle.envy_device.specs.contracts.recorded.LoggedFile as recorded
+use Rattle.envy_device.specs.contracts.recorded.LoggedFileDevice.TheImpl as device
 use Rattle.envy_synced.specs.contracts.kept.Kept as kept
 use Rattle.envy_synced.specs.contracts.kept.KeptBoard.TheImpl as board
 use Rattle.envy_memory.specs.contracts.memory.Memory as memory

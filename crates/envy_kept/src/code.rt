@@ -1,7 +1,7 @@
 ghost use Rattle.std.specs.Prelude.{◌≡◌};
 ghost use Rattle.envy_kept.specs.Codes.{number_of_kept, code_of_unbegun};
 
-use envy_begun::Unbegun;
+use envy_begun::OpenFault;
 use envy_calls::Code;
 
 /// What calls on a memory in a file answer beside what they answer over any board.
@@ -35,16 +35,16 @@ impl KeptCode {
 }
 
 /// The answer where no memory began in a file.
-pub fn unbegun_code(unbegun: Unbegun) -> KeptCode
+pub fn unbegun_code(unbegun: OpenFault) -> KeptCode
     ensures { result ≡ code_of_unbegun unbegun }
 {
     match unbegun {
-        Unbegun::Setup(fault) | Unbegun::Options(fault) => KeptCode::Of(Code::Setup(fault)),
-        Unbegun::NoJournal => KeptCode::NoJournal,
-        Unbegun::OtherVersion => KeptCode::OtherVersion,
-        Unbegun::Damaged(_) => KeptCode::Damaged,
-        Unbegun::OtherSizes => KeptCode::Of(Code::OtherShape),
-        Unbegun::Memory => KeptCode::Of(Code::NoMemory),
-        Unbegun::NotMade | Unbegun::Failed(_) => KeptCode::Of(Code::Off),
+        OpenFault::Setup(fault) | OpenFault::Options(fault) => KeptCode::Of(Code::Setup(fault)),
+        OpenFault::NoJournal => KeptCode::NoJournal,
+        OpenFault::OtherVersion => KeptCode::OtherVersion,
+        OpenFault::Damaged(_) => KeptCode::Damaged,
+        OpenFault::OtherSizes => KeptCode::Of(Code::OtherShape),
+        OpenFault::Memory => KeptCode::Of(Code::NoMemory),
+        OpenFault::NotMade | OpenFault::Failed(_) => KeptCode::Of(Code::Off),
     }
 }

@@ -2,8 +2,8 @@ ghost use Rattle.std.specs.Prelude.{◌≡◌, Ok, IfOk, IfErr, MatchResult};
 ghost use Rattle.envy_array.specs.Array.{Array};
 ghost use Rattle.envy_begun.specs.Beginning.{HasBegun, HasOperationsOf};
 ghost use Rattle.envy_begun.specs.Plans.{BeginsAs, BeginsOn, Plans};
-ghost use Rattle.envy_begun.specs.declared.planning.Holding.{Holding as OfHolding};
-ghost use Rattle.envy_begun.specs.declared.planning.Holding.TheVariants.{Written};
+ghost use Rattle.envy_begun.specs.declared.file_contents.FileContents.{FileContents as OfHolding};
+ghost use Rattle.envy_begun.specs.declared.file_contents.FileContents.TheVariants.{Written};
 ghost use Rattle.envy_journal.specs.Head.{HasSixSizes};
 ghost use Rattle.envy_kept.specs.Opening.{Opened, Opens, RefusesFile, RefusesOpen, options_of};
 ghost use Rattle.envy_policy.specs.Setup.{checked};
@@ -12,12 +12,12 @@ use crate::code::{KeptCode, unbegun_code};
 use crate::handle::Slot;
 use envy_args::{KeepOptions, Sizes};
 use envy_base::ShapeFault;
-use envy_begun::{Unbegun, begin, plan};
+use envy_begun::{OpenFault, begin, plan};
 use envy_calls::{Code, EnvySetup, checked_setup};
-use envy_cells::CellBoard;
 use envy_memory::Memory;
 use envy_policy::{Setup, SetupFault};
 use envy_portfile::{FilePort, PortFile};
+use envy_region::OwnedBoard;
 use envy_synced::Kept;
 use std::alloc::Global;
 
@@ -49,7 +49,7 @@ fn begun(
     file: &[u8],
     port: i32,
     bytewise: bool,
-) -> Result<Memory<Kept<CellBoard, PortFile>>, Unbegun>
+) -> Result<Memory<Kept<OwnedBoard, PortFile>>, OpenFault>
     requires checks { checked setup.now ≡ Ok tt }
     requires six { HasSixSizes setup.now.shape }
     ensures begun { IfOk result (λ memory. (holding : OfHolding) × (array : Array)
@@ -60,8 +60,8 @@ fn begun(
 {
     let options = options(setup);
     let (setup, holding) = plan(&options, file)?;
-    let Ok(board) = CellBoard::blank(alloc, &setup.shape) else {
-        return Err(Unbegun::Memory);
+    let Ok(board) = OwnedBoard::blank(alloc, &setup.shape) else {
+        return Err(OpenFault::Memory);
     };
     let device = FilePort::found(port, file, bytewise);
     match begin(alloc, board, device, &options, file, setup, holding) {
@@ -77,7 +77,7 @@ fn opened(
     file: &[u8],
     port: i32,
     bytewise: bool,
-) -> Result<Memory<Kept<CellBoard, PortFile>>, KeptCode>
+) -> Result<Memory<Kept<OwnedBoard, PortFile>>, KeptCode>
     ensures { MatchResult result (Opened given.now file.now) (RefusesOpen given.now file.now) }
 {
     let setup = match checked_setup(given) {

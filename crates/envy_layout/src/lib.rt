@@ -9,8 +9,8 @@
 #![tactic(auto)]
 
 mod arrangement;
-mod claiming;
-mod erasing;
+mod claim;
+mod erase;
 mod format;
 mod frame;
 mod job;
@@ -18,16 +18,16 @@ mod laws;
 mod lay;
 mod page_place;
 mod page_undo;
-mod parting;
 mod position;
-mod programming;
-mod retiring;
+mod program;
+mod retirement;
 mod rows;
+mod separation;
 mod slots;
-mod upgrading;
+mod version;
 
-pub use claiming::{claim_back, note_origin, raise_fill};
-pub use erasing::{empty_spare, erase_counted, raise_wear};
+pub use claim::{claim_back, note_origin, raise_fill};
+pub use erase::{empty_spare, erase_counted, raise_wear};
 pub use format::{format_board, format_board_1};
 pub use frame::{change_frame_word, move_to_frame, write_free_frame};
 pub use job::{begin_copy, begin_erase, begin_switch, change_job, end_job};
@@ -37,10 +37,10 @@ pub use laws::{
 };
 pub use page_place::{move_place, restore_place, switch_place};
 pub use page_undo::{clear_settled_undo, move_undo, own_page, switch_undo};
-pub use parting::place_and_undo_stay_parted;
 pub use position::{a_board_has_one_spare, change_position, replace_segment};
-pub use programming::program_row;
-pub use retiring::{close_spare, retire_spare};
-pub use rows::{Kept, keeper, program_counted, words_of_row};
+pub use program::program_row;
+pub use retirement::{close_spare, retire_spare};
+pub use rows::{Kept, program_counted, row_owner, words_of_row};
+pub use separation::place_and_undo_stay_parted;
 pub use slots::{commit_slot, set_unused_slot};
-pub use upgrading::upgrade;
+pub use version::upgrade;

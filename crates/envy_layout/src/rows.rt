@@ -8,8 +8,8 @@ ghost use Rattle.envy_layout.specs.Power.{power_of, power_after};
 ghost use Rattle.envy_layout.specs.Same.{Same};
 ghost use Rattle.envy_layout.specs.Sound.{IsSound};
 
-use crate::erasing::one_more;
-use crate::programming::program_row;
+use crate::erase::one_more;
+use crate::program::program_row;
 use envy_base::{Board, Off, PAGE_LENGTH, PAGE_WORDS, Page, Place, Slot, Trouble, Undo};
 use envy_map::{back, place, slot, undo};
 
@@ -23,7 +23,7 @@ pub struct Kept {
 
 /// Who keeps a row, or `None` where it isn't kept. Only the page that the row was claimed for can name it.
 #[inline(always)]
-pub fn keeper<B: Board>(board: &B, row: u32) -> Result<Option<Kept>, Off>
+pub fn row_owner<B: Board>(board: &B, row: u32) -> Result<Option<Kept>, Off>
     requires sound { IsSound (chart (B.state board.now)) }
     requires row { row < (B.state board.now).shape.segments * (B.state board.now).shape.rows }
     ensures keeps { IfOk result (λ found.

@@ -6,11 +6,10 @@ ghost use Rattle.envy_openings.specs.Faultless.{IsFaultless};
 ghost use denote.RawPtr.{InBlock};
 
 use envy_bench::CalmBoard;
-use envy_cells::OwnedBoard;
 use envy_openings::faultless;
 use envy_places::MemoryPlace;
 use envy_portfile::PortFile;
-use envy_region::RegionBoard;
+use envy_region::{BorrowedBoard, OwnedBoard};
 use envy_synced::Kept;
 use std::marker::Model;
 
@@ -37,7 +36,7 @@ impl Envy {
     /// The handle of a place.
     pub fn of(
         place: &'static mut MemoryPlace<
-            RegionBoard<'static>,
+            BorrowedBoard<'static>,
             Kept<OwnedBoard, PortFile>,
             CalmBoard,
         >,
@@ -47,7 +46,7 @@ impl Envy {
     {
         Envy {
             at: place as *mut MemoryPlace<
-                RegionBoard<'static>,
+                BorrowedBoard<'static>,
                 Kept<OwnedBoard, PortFile>,
                 CalmBoard,
             > as *mut u8,
@@ -57,14 +56,14 @@ impl Envy {
     /// The place of a handle.
     pub fn into_place(
         self,
-    ) -> &'static mut MemoryPlace<RegionBoard<'static>, Kept<OwnedBoard, PortFile>, CalmBoard>
+    ) -> &'static mut MemoryPlace<BorrowedBoard<'static>, Kept<OwnedBoard, PortFile>, CalmBoard>
         requires { InBlock self.at }
         ensures { result ≡ self.place }
     {
         let Envy { at } = self;
         unsafe {
             &mut *(at as *mut MemoryPlace<
-                RegionBoard<'static>,
+                BorrowedBoard<'static>,
                 Kept<OwnedBoard, PortFile>,
                 CalmBoard,
             >)
@@ -75,7 +74,7 @@ impl Envy {
 /// Takes the place out of a handle, which is one of no place then.
 pub fn lend(
     m: &mut Envy,
-) -> &'static mut MemoryPlace<RegionBoard<'static>, Kept<OwnedBoard, PortFile>, CalmBoard>
+) -> &'static mut MemoryPlace<BorrowedBoard<'static>, Kept<OwnedBoard, PortFile>, CalmBoard>
     requires { InBlock m.old.at }
     ensures place { result ≡ m.old.place }
     ensures faultless { IsFaultless result.now }
@@ -88,7 +87,7 @@ pub fn lend(
 /// Puts a place back into a handle.
 pub fn give_back(
     m: &mut Envy,
-    place: &'static mut MemoryPlace<RegionBoard<'static>, Kept<OwnedBoard, PortFile>, CalmBoard>,
+    place: &'static mut MemoryPlace<BorrowedBoard<'static>, Kept<OwnedBoard, PortFile>, CalmBoard>,
 )
     ensures place { m.new.place ≡ place.entry }
     ensures live { InBlock m.new.at }

@@ -7,8 +7,8 @@ use denote.Ref.{MutRef}
 use mir.Syntax.{named}
 use base.Fml.{Fml, ftrue}
 use Rattle.std.specs.contracts.option.Option as option
-use Rattle.envy_region.specs.contracts.board.RegionBoard as region_board
-use Rattle.envy_region.specs.contracts.board.RegionBoardBoard.TheImpl as board
+use Rattle.envy_region.specs.contracts.board.BorrowedBoard as region_board
+use Rattle.envy_region.specs.contracts.board.BorrowedBoardBoard.TheImpl as board
 use Rattle.envy_memory.specs.contracts.memory.Memory as memory
 
 -- a memory over regions, and a place that may hold one

@@ -8,11 +8,11 @@ ghost use Rattle.envy_mapped.specs.Steady.{IsSteady};
 ghost use denote.RawPtr.{InBlock};
 
 use envy_memory::Memory;
-use envy_region::RegionBoard;
+use envy_region::BorrowedBoard;
 use std::marker::Model;
 
 /// A place that may hold a memory.
-pub type Slot = Option<Memory<RegionBoard<'static>>>;
+pub type Slot = Option<Memory<BorrowedBoard<'static>>>;
 
 /// What a caller in C holds: a pointer to a place, through which it never reads.
 #[repr(C)]
@@ -35,27 +35,27 @@ impl EnvyMapped {
     }
 
     /// The handle of a place.
-    pub fn of(slot: &'static mut Option<Memory<RegionBoard<'static>>>) -> EnvyMapped
+    pub fn of(slot: &'static mut Option<Memory<BorrowedBoard<'static>>>) -> EnvyMapped
         ensures slot { result.slot ≡ slot.entry }
         ensures live { InBlock result.at }
     {
         EnvyMapped {
-            at: slot as *mut Option<Memory<RegionBoard<'static>>> as *mut u8,
+            at: slot as *mut Option<Memory<BorrowedBoard<'static>>> as *mut u8,
         }
     }
 
     /// The place of a handle.
-    pub fn into_slot(self) -> &'static mut Option<Memory<RegionBoard<'static>>>
+    pub fn into_slot(self) -> &'static mut Option<Memory<BorrowedBoard<'static>>>
         requires { InBlock self.at }
         ensures { result ≡ self.slot }
     {
         let EnvyMapped { at } = self;
-        unsafe { &mut *(at as *mut Option<Memory<RegionBoard<'static>>>) }
+        unsafe { &mut *(at as *mut Option<Memory<BorrowedBoard<'static>>>) }
     }
 }
 
 // What the board of a memory over regions says.
-fn steady(slot: &Option<Memory<RegionBoard<'static>>>)
+fn steady(slot: &Option<Memory<BorrowedBoard<'static>>>)
     ensures { ForSome slot.now IsSteady }
 {
     if let Some(memory) = slot {
@@ -64,7 +64,7 @@ fn steady(slot: &Option<Memory<RegionBoard<'static>>>)
 }
 
 /// Takes the place out of a handle, which is one of no place then.
-pub fn lend(m: &mut EnvyMapped) -> &'static mut Option<Memory<RegionBoard<'static>>>
+pub fn lend(m: &mut EnvyMapped) -> &'static mut Option<Memory<BorrowedBoard<'static>>>
     requires { InBlock m.old.at }
     ensures slot { result ≡ m.old.slot }
     ensures steady { ForSome result.now IsSteady }
@@ -75,7 +75,7 @@ pub fn lend(m: &mut EnvyMapped) -> &'static mut Option<Memory<RegionBoard<'stati
 }
 
 /// Puts a place back into a handle.
-pub fn give_back(m: &mut EnvyMapped, slot: &'static mut Option<Memory<RegionBoard<'static>>>)
+pub fn give_back(m: &mut EnvyMapped, slot: &'static mut Option<Memory<BorrowedBoard<'static>>>)
     ensures slot { m.new.slot ≡ slot.entry }
     ensures live { InBlock m.new.at }
     ensures steady { ForSome slot.entry.now IsSteady }

@@ -11,8 +11,8 @@ ghost use Rattle.envy_memory.specs.Attaching.{IsAttachable, MayAttach, Raises, I
 ghost use Rattle.envy_memory.specs.Making.{StartsAnew};
 
 use crate::faults::AttachFault;
-use crate::making::make_parts;
 use crate::memory::Memory;
+use crate::new_parts::make_parts;
 use envy_base::{Board, Off};
 use envy_flush::{Parts, restart};
 use envy_layout::upgrade;

@@ -9,8 +9,8 @@ ghost use Rattle.envy_memory.specs.Formats.{MayFormat, Makes, CountsFormat, Refu
 ghost use Rattle.envy_memory.specs.Making.{StartsAnew};
 
 use crate::faults::FormatFault;
-use crate::making::make_parts;
 use crate::memory::Memory;
+use crate::new_parts::make_parts;
 use envy_base::{Board, Trouble};
 use envy_flush::{Parts, rebuild};
 use envy_layout::format_board;

@@ -55,7 +55,7 @@ impl<B: Board> Memory<B> {
         if !self.powered() {
             return Err(LoadFault::Off);
         }
-        self.known();
+        self.invariant_holds();
         let words = PAGE_WORDS * self.board.shape().pages;
         if into.len() > words.saturating_sub(a) as usize {
             return Err(LoadFault::Range);
@@ -77,7 +77,7 @@ impl<B: Board> Memory<B> {
             self.new.parts.cache }
         ensures kept { self.new ≡ record self.old { parts = record self.old.parts { cache = self.new.parts.cache } } }
     {
-        self.known();
+        self.invariant_holds();
         let last = a + (into.len() - 1) as u32;
         for page in a / PAGE_WORDS..last / PAGE_WORDS + 1 {
             self.load_part(page, a, into);
@@ -94,7 +94,7 @@ impl<B: Board> Memory<B> {
         ensures visits { Accesses page self.old.parts.cache self.new.parts.cache }
         ensures kept { self.new ≡ record self.old { parts = record self.old.parts { cache = self.new.parts.cache } } }
     {
-        self.known();
+        self.invariant_holds();
         let from = a.max(PAGE_WORDS * page);
         let to = (a + into.len() as u32).min(PAGE_WORDS * page + PAGE_WORDS);
         self.load_page(from, &mut into[(from - a) as usize..(to - a) as usize]);

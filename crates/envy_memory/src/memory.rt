@@ -11,7 +11,7 @@ ghost use Rattle.envy_memory.specs.Below.{LoadsBelow, IsPast};
 ghost use Rattle.envy_memory.specs.Picture.{IsMemory, counts_of, state_in};
 
 use crate::faults::LoadFault;
-use crate::looking::kept_place;
+use crate::kept_place::kept_place;
 use envy_array::Counts;
 use envy_base::{Board, PAGE_WORDS};
 use envy_flush::{Parts, word};
@@ -120,7 +120,7 @@ impl<B: Board> Memory<B> {
 
     /// What holds of each memory between its calls: its board is formatted and sound, and where power is on its parts
     /// agree with it. Where no slot is open, no page has an owner.
-    pub fn known(&self)
+    pub fn invariant_holds(&self)
         ensures memory { IsMemory self.now.chart self.now.parts self.now.owned self.now.limit self.now.mark }
         ensures shape { IsShape self.now.chart.shape }
         ensures magic { self.now.chart.fields.magic ≡ the_magic }

@@ -32,7 +32,7 @@ impl<B: Board> OneTx<B> {
         ensures same { result.memory ≡ memory }
         ensures shut { result.begun ≡ false }
     {
-        memory.known();
+        memory.invariant_holds();
         OneTx {
             memory,
             begun: false,
@@ -46,7 +46,7 @@ impl<B: Board> OneTx<B> {
         ensures same { result.memory ≡ memory }
         ensures begun { IsTrue result.begun }
     {
-        memory.known();
+        memory.invariant_holds();
         OneTx {
             memory,
             begun: true,
@@ -71,7 +71,7 @@ impl<B: Board> OneTx<B> {
         ensures resumes { IsTrue (sheet_of self.memory self.begun).started
             → ∥ (IsTrue result.chart.on → IsHeld result.chart true) ∥₁ }
     {
-        self.memory.known();
+        self.memory.invariant_holds();
         let OneTx { memory, begun: _ } = self;
         memory
     }
@@ -174,7 +174,7 @@ impl<B: Board> Words for OneTx<B> {
     }
 
     fn start(&mut self) -> Result<(), Off> {
-        self.memory.known();
+        self.memory.invariant_holds();
         let begun = self.memory.begin();
         self.begun = true;
         match begun {

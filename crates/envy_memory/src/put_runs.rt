@@ -72,7 +72,7 @@ impl<B: Board> Memory<B> {
         ensures stands { OnOk result (StandsFor (Some t) ((a + i) / PAGE_WORDS) frame.new self.new) }
         ensures next { OnOk result (a + i + 1 < 2 ^ 32) }
     {
-        self.known();
+        self.invariant_holds();
         let at = a + i as u32;
         if is_one_more(a, i) {
             return self.put_more(at, *frame, value);

@@ -11,7 +11,7 @@ impl<B: Board> Memory<B> {
     pub(crate) fn left(&self) -> u32
         ensures { length self.now.owned.pairs + result ≡ self.now.chart.shape.shadows }
     {
-        self.known();
+        self.invariant_holds();
         self.board.shape().shadows - self.owned.count()
     }
 
@@ -20,7 +20,7 @@ impl<B: Board> Memory<B> {
     pub(crate) fn lacks_room(&self, t: u8, a: u32, n: usize) -> bool
         ensures { IsTrue result ↔ LacksRoom t a n self.now }
     {
-        self.known();
+        self.invariant_holds();
         let pages = self.pages_within(a, n);
         let left = self.board.shape().shadows - self.owned.count();
         if pages <= left {
@@ -42,7 +42,7 @@ impl<B: Board> Memory<B> {
     fn pages_within(&self, a: u32, n: usize) -> u32
         ensures { result ≡ pages_within a n self.now.chart.shape.pages }
     {
-        self.known();
+        self.invariant_holds();
         let pages = self.board.shape().pages;
         let words = (PAGE_WORDS * pages).saturating_sub(a);
         let within = n.min(words as usize) as u32;

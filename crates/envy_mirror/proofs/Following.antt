@@ -14,10 +14,10 @@ use Rattle.envy_memory.specs.Calls.{fresh}
 use Rattle.envy_mirror.specs.Catching.{Helps, NoneOpen, NoneStale, IsLowestStale, Copies}
 use Rattle.envy_mirror.specs.Mirroring.{AgreesBy, Agrees, Mirrors, Trails, IsFreshAt}
 use Rattle.envy_mirror.specs.Pair.{Side, Pair, is_good, is_good_by, IsClosed, IsPair, IsSide, IsSideBy}
-use Rattle.envy_mirror.specs.declared.catching.Caught.{Caught}
-use Rattle.envy_mirror.specs.declared.catching.Caught.TheVariants.{Whole, Waiting, Woken, Copied, Joined}
-use Rattle.envy_mirror.specs.declared.catching.CatchFault.{CatchFault}
-use Rattle.envy_mirror.specs.declared.catching.CatchFault.TheVariants.{Off, Dead, Slipped, Bad}
+use Rattle.envy_mirror.specs.declared.catch_up.Caught.{Caught}
+use Rattle.envy_mirror.specs.declared.catch_up.Caught.TheVariants.{Whole, Waiting, Woken, Copied, Joined}
+use Rattle.envy_mirror.specs.declared.catch_up.CatchFault.{CatchFault}
+use Rattle.envy_mirror.specs.declared.catch_up.CatchFault.TheVariants.{Off, Dead, Slipped, Bad}
 use Rattle.envy_mirror.specs.declared.standing.Standing.{Standing}
 use Rattle.envy_mirror.specs.declared.standing.Standing.TheVariants.{Good, Behind, Gone}
 use Rattle.envy_mirror.proofs.Closing.{fresh-is, owner-fresh, undone-fresh}

@@ -21,8 +21,8 @@ use Rattle.envy_mirror.specs.Pair.{Pair, is_good, is_good_by, side_at, IsDark, I
 use Rattle.envy_mirror.specs.Reading.{Finds, AsksLowest, Reads}
 use Rattle.envy_mirror.specs.Replies.{load_reply}
 use Rattle.envy_mirror.specs.Reviving.{which, plan_side}
-use Rattle.envy_mirror.specs.declared.catching.Caught.{Caught}
-use Rattle.envy_mirror.specs.declared.catching.CatchFault.{CatchFault}
+use Rattle.envy_mirror.specs.declared.catch_up.Caught.{Caught}
+use Rattle.envy_mirror.specs.declared.catch_up.CatchFault.{CatchFault}
 use Rattle.envy_mirror.specs.declared.standing.Standing.{Standing}
 use Rattle.envy_mirror.specs.declared.standing.Standing.TheVariants.{Good, Behind, Gone as IsGone}
 use Rattle.envy_mirror.specs.declared.standing.Which.{Which}

@@ -5,7 +5,7 @@ ghost use Rattle.envy_map.specs.Fields.{chart};
 ghost use Rattle.envy_picture.specs.Kinds.{IsKind, kind_of};
 
 use envy_base::{Board, Off};
-use envy_layout::{Kept, keeper};
+use envy_layout::{Kept, row_owner};
 use envy_map::fill;
 
 /// What a row of flash is.
@@ -39,7 +39,7 @@ pub fn row_kind<B: Board>(board: &B, row: u32) -> Result<RowKind, Off>
     ensures kind { IfOk result (IsKind (B.state board.now).shape (chart (B.state board.now)).fields row) }
     ensures power { (B.state board.now).on ≡ power_of result }
 {
-    if let Some(kept) = keeper(board, row)? {
+    if let Some(kept) = row_owner(board, row)? {
         return Ok(kind_of(kept));
     }
     let rows = board.shape().rows;

@@ -6,7 +6,7 @@
 //! 2 says that it wasn't put there, and that the file is as it was. What is noted of a call is what was ordered, and each
 //! order is noted.
 //!
-//! What is trusted of the program is what `envy_record` says of a file's calls: that it does what it answers as done, and
+//! What is trusted of the program is what `envy_device` says of a file's calls: that it does what it answers as done, and
 //! nothing else to the file.
 #![tactic(auto)]
 

@@ -7,7 +7,7 @@ use envy_base::{Board, Off, PAGE_LENGTH, Page, Shape, Trouble, more};
 
 /// A board whose flash, SRAM and counts of erases lie in memory of its caller's.
 #[derive(Drop)]
-pub struct RegionBoard<'a> {
+pub struct BorrowedBoard<'a> {
     /// The sizes.
     pub shape: Shape,
     /// Rows of flash, 32 words to each; a segment's rows lie together.
@@ -21,19 +21,19 @@ pub struct RegionBoard<'a> {
     ghost sound: { IsBoard (region_state shape flash.now sram.now erases.now begun) } by { Prim.hlevel props },
 }
 
-impl<'a> RegionBoard<'a> {
+impl<'a> BorrowedBoard<'a> {
     /// A board over memory of the sizes that the shape asks for. It reads and writes none of it.
     pub fn over(
         shape: Shape,
         flash: &'a mut [Page],
         sram: &'a mut [u64],
         erases: &'a mut [u64],
-    ) -> RegionBoard<'a>
+    ) -> BorrowedBoard<'a>
         requires { IsBoard (region_state shape flash.old sram.old erases.old 0) }
         ensures { region_state result.shape result.flash.now result.sram.now result.erases.now result.begun
             ≡ region_state shape flash.old sram.old erases.old 0 }
     {
-        RegionBoard {
+        BorrowedBoard {
             shape,
             flash,
             sram,
@@ -43,7 +43,7 @@ impl<'a> RegionBoard<'a> {
     }
 }
 
-impl<'a> Board for RegionBoard<'a> {
+impl<'a> Board for BorrowedBoard<'a> {
     ghost state = { λ b. region_state b.shape b.flash.now b.sram.now b.erases.now b.begun };
 
     ghost lawful = { λ b. b.sound };

@@ -3,7 +3,7 @@ ghost use Rattle.envy_base.specs.State.{Puts, with_word};
 ghost use Rattle.envy_region.specs.Fences.{AddsFence};
 ghost use Rattle.envy_region.specs.Region.{region_state};
 
-use crate::RegionBoard;
+use crate::BorrowedBoard;
 use envy_base::{Board, Off, Page, Shape, Trouble};
 
 /// What orders stores to memory, on a processor that doesn't keep their order.
@@ -21,7 +21,7 @@ pub trait Fence {
 #[derive(Drop)]
 pub struct OrderedBoard<'a, F: Fence> {
     /// The board without barriers.
-    pub board: RegionBoard<'a>,
+    pub board: BorrowedBoard<'a>,
     /// What orders stores.
     pub fence: F,
 }
@@ -37,7 +37,7 @@ pub fn put_word<F: Fence>(fence: &mut F, sram: &mut [u64], w: usize, v: u64)
 }
 
 // The same of a board's SRAM.
-fn put_in<F: Fence>(fence: &mut F, board: &mut RegionBoard, w: usize, v: u64)
+fn put_in<F: Fence>(fence: &mut F, board: &mut BorrowedBoard, w: usize, v: u64)
     requires { w < length board.old.sram.now }
     ensures stored { region_state board.new.shape board.new.flash.now board.new.sram.now board.new.erases.now board.new.begun
         ≡ with_word (region_state board.old.shape board.old.flash.now board.old.sram.now board.old.erases.now board.old.begun) w v }

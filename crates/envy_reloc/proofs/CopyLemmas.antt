@@ -22,7 +22,7 @@ use Rattle.envy_layout.specs.Sound as Layout
 use Rattle.envy_layout.proofs.Claimed.{AreHome-copying}
 use Rattle.envy_layout.proofs.References.{apart-spare, copy-segment}
 use Rattle.envy_layout.proofs.SpareLemmas.{one-spare}
-use Rattle.envy_reloc.specs.declared.copying.Left.{Left}
+use Rattle.envy_reloc.specs.declared.row_copy.Left.{Left}
 use Rattle.envy_reloc.specs.Phases.{copied_to, CopiesLeft}
 use Rattle.envy_reloc.specs.Plan.{Plan, IsPlanOf, IsMarked, IsCopy, AreCopies, HasCopy}
 use Rattle.envy_reloc.specs.Rows.{IsLeft, IsLowestLeft, AreAllCopied, NextKept}

@@ -13,7 +13,7 @@ use Rattle.envy_layout.specs.Sound.{IsKept}
 use Rattle.envy_reloc.specs.Phases.{CountsBegun, CountsApart, HasNoMove, IsFirstMove, NextMove}
 use Rattle.envy_reloc.specs.Plan.{Plan}
 use Rattle.envy_reloc.specs.Rows.{IsLowestRoom}
-use Rattle.envy_reloc.specs.declared.moving.Move.{Move}
+use Rattle.envy_reloc.specs.declared.row_move.Move.{Move}
 
 -- what a plan counts, by the counts of one phase
 pub counts_by_copy : (old new : Chart) (plan then_plan : Plan) → Same 1 0 old new → Tally old.begun plan.copied new.begun then_plan.copied → then_plan.moved ≡ plan.moved → then_plan.erased ≡ plan.erased → then_plan.since ≡ plan.since → CountsBegun old plan new then_plan

@@ -17,7 +17,7 @@ use Rattle.envy_layout.proofs.Composition.{Same-more}
 use Rattle.envy_layout.proofs.NamingLemmas.{FramesStay-named, job-named, fills-named, positions-named}
 use Rattle.envy_layout.proofs.References.{apart-spare}
 use Rattle.envy_layout.proofs.SpareLemmas.{one-spare, some-spare}
-use Rattle.envy_reloc.specs.declared.moving.Move.{Move}
+use Rattle.envy_reloc.specs.declared.row_move.Move.{Move}
 use Rattle.envy_reloc.specs.declared.step.Phase.{Phase}
 use Rattle.envy_reloc.specs.declared.step.Phase.TheVariants.{Moved, Copied, Switched, Placed, Erased}
 use Rattle.envy_reloc.specs.Effort.{LeftOf, Leaves, Spent, programs_of, erases_of}

@@ -13,7 +13,7 @@ use Rattle.envy_layout.specs.Naming.{with_named}
 use Rattle.envy_layout.specs.Sound.{Numbers, Sound, IsSound, IsKept, Names, IsPlaced, IsSpare}
 use Rattle.envy_layout.proofs.NamingLemmas.{Names-into, named-page, job-named, positions-named, fills-named, backs-named, origins-named}
 use Rattle.envy_layout.proofs.References.{apart-spare}
-use Rattle.envy_reloc.specs.declared.moving.Move.{Move}
+use Rattle.envy_reloc.specs.declared.row_move.Move.{Move}
 use Rattle.envy_reloc.specs.Phases.{MovesRow, moved_to}
 use Rattle.envy_reloc.specs.Plan.{Plan, IsPlanOf, IsCopy, AreCopies, HasCopy}
 

@@ -28,7 +28,7 @@ use Rattle.envy_space.specs.Pool.{Pool, PoolAgrees}
 use Rattle.envy_space.proofs.FollowLemmas.{Followed-named}
 use Rattle.envy_table.specs.Agreement.{AreCurrent}
 use Rattle.envy_table.specs.Entries.{Entry}
-use Rattle.envy_reloc.specs.declared.switching.Switched.{Switched}
+use Rattle.envy_reloc.specs.declared.row_switch.Switched.{Switched}
 use Rattle.envy_reloc.specs.Switching.{SwitchesRow, SwitchesPlace, SwitchesUndo, SwitchesRows, SwitchesAll}
 
 -- a row that a page names, its place does or its undo, whose slot is active

@@ -17,8 +17,8 @@ use Rattle.envy_reloc.specs.Effort.{programs_of, erases_of, Leaves, Spent}
 use Rattle.envy_reloc.specs.Phases.{copied_to, CopiesLeft, Does, MovesRow, Spoils, SpoilsRow, SpoilsTarget, counted_by}
 use Rattle.envy_reloc.specs.Plan.{Plan, AreCopies, IsPlanOf}
 use Rattle.envy_reloc.specs.Rows.{HasRoom, IsLeft}
-use Rattle.envy_reloc.specs.declared.copying.Left.{Left}
-use Rattle.envy_reloc.specs.declared.moving.Move.{Move}
+use Rattle.envy_reloc.specs.declared.row_copy.Left.{Left}
+use Rattle.envy_reloc.specs.declared.row_move.Move.{Move}
 use Rattle.envy_reloc.specs.declared.step.Phase.{Phase}
 use Rattle.envy_base.specs.Shape.{positions_of}
 

@@ -12,7 +12,7 @@ use Rattle.envy_layout.specs.Sound.{IsSpare, IsKept}
 use Rattle.envy_reloc.specs.Plan.{Plan}
 use Rattle.envy_reloc.specs.Rows.{IsLowestLeft, AreAllCopied, HasRoom, IsLowestRoom}
 use Rattle.envy_reloc.specs.Switching.{SwitchesAll}
-use Rattle.envy_reloc.specs.declared.moving.Move.{Move}
+use Rattle.envy_reloc.specs.declared.row_move.Move.{Move}
 use Rattle.envy_reloc.specs.declared.step.Phase.{Phase}
 use Rattle.envy_reloc.specs.declared.step.Phase.TheVariants.{Moved, Copied, Switched, Placed, Erased}
 use Rattle.envy_base.specs.Shape.{positions_of}

@@ -9,7 +9,7 @@ ghost use Rattle.envy_reloc.specs.Settling.{Finds, KeepsOthers, Finishes, Settle
 ghost use Rattle.envy_base.specs.Shape.{all_positions_of, positions_of};
 
 use crate::Reloc;
-use crate::switching::switch_row;
+use crate::row_switch::switch_row;
 use envy_base::{Board, Job, Off, all_positions_of, positions_of};
 use envy_layout::{begin_erase, replace_segment};
 use envy_map::{fill, job, segment_at};

@@ -14,10 +14,10 @@ ghost use Rattle.envy_reloc.specs.Plan.{IsPlanOf};
 ghost use Rattle.envy_reloc.specs.Rows.{NextKept};
 
 use crate::Reloc;
-use crate::copying::{Left, copy_row, next_kept};
-use crate::ending::{erase, place_spare};
-use crate::moving::{Move, move_row};
-use crate::switching::switch_segment;
+use crate::job_end::{erase, place_spare};
+use crate::row_copy::{Left, copy_row, next_kept};
+use crate::row_move::{Move, move_row};
+use crate::row_switch::switch_segment;
 use envy_base::{Board, Job, Trouble};
 use envy_layout::begin_erase;
 use envy_map::job;

@@ -1,6 +1,6 @@
 //! The trace of a row of a table, and what is replied to it, with what stands for numbers and newlines filled in.
 
-use crate::playing::NO_ROOM;
+use crate::played_run::NO_ROOM;
 use crate::rows::{number_of, parted};
 use std::alloc::Global;
 use std::process::Abort;

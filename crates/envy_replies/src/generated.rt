@@ -3,7 +3,7 @@
 
 use crate::filled::{put_number, put_text};
 use crate::images::image;
-use crate::playing::NO_ROOM;
+use crate::played_run::NO_ROOM;
 use crate::rows::{number_of, parted};
 use crate::told::{holds, same};
 use std::alloc::Global;

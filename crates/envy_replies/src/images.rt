@@ -1,6 +1,6 @@
 //! Images whose board or sink fails.
 
-use crate::playing::{NO_ROOM, calm, play};
+use crate::played_run::{NO_ROOM, calm, play};
 use crate::rows::check_behind;
 use crate::told::same;
 use std::alloc::Global;

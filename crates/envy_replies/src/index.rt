@@ -2,7 +2,7 @@
 
 use crate::filled::{put_number, put_text};
 use crate::generated::put_plan;
-use crate::playing::{calm, play};
+use crate::played_run::{calm, play};
 use crate::rows::check_table;
 use crate::told::{holds, same};
 use rand_core::{Rng, SeedableRng};

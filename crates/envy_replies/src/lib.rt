@@ -7,7 +7,7 @@ mod boards;
 #[cfg(test)]
 mod filled;
 #[cfg(test)]
-mod formatting;
+mod format;
 #[cfg(test)]
 mod generated;
 #[cfg(test)]
@@ -21,7 +21,7 @@ mod mirror;
 #[cfg(test)]
 mod planned;
 #[cfg(test)]
-mod playing;
+mod played_run;
 #[cfg(test)]
 mod refused;
 #[cfg(test)]

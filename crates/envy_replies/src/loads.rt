@@ -1,6 +1,6 @@
 //! Loads and stores, failures of power, and lines that are refused.
 
-use crate::playing::{calm, play};
+use crate::played_run::{calm, play};
 use crate::rows::{check_played, check_table, stops};
 use crate::told::{holds, same};
 

@@ -1,7 +1,7 @@
 //! Images that are taken up, and those that aren't.
 
 use crate::images::image;
-use crate::playing::{Given, calm, play};
+use crate::played_run::{Given, calm, play};
 use crate::rows::check_behind;
 use crate::told::same;
 use std::alloc::Global;

@@ -4,7 +4,7 @@
 use crate::filled::{changed, put_pieces};
 use crate::generated::written;
 use crate::images::image;
-use crate::playing::NO_ROOM;
+use crate::played_run::NO_ROOM;
 use crate::rows::{check_behind, check_table, parted};
 use crate::told::{holds, same};
 use std::alloc::Global;

@@ -19,7 +19,7 @@
 
 use crate::filled::{changed, put_pieces};
 use crate::planned::Plan;
-use crate::playing::{Given, NO_ROOM, Told, calm, play};
+use crate::played_run::{Given, NO_ROOM, Told, calm, play};
 use crate::told::{holds, same};
 use std::alloc::Global;
 use std::process::Abort;

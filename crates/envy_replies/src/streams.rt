@@ -1,6 +1,6 @@
 //! Sources that give few bytes at a time, streams that fail, and traces that stop anywhere.
 
-use crate::playing::{Given, Told, calm, play};
+use crate::played_run::{Given, Told, calm, play};
 use crate::rows::{check_played, check_table, stops};
 use crate::told::holds;
 use std::alloc::Global;

@@ -2,7 +2,7 @@
 //! the load, the policies and the order of device operations.
 
 use crate::filled::{put_number, put_text};
-use crate::playing::{Given, NO_ROOM, Told, calm, play};
+use crate::played_run::{Given, NO_ROOM, Told, calm, play};
 use crate::rows::{check_run, check_table, first_lines, number_of, parted, stops};
 use crate::told::{holds, same};
 use std::alloc::Global;

@@ -4,7 +4,7 @@
 use crate::generated::{asking, ends_with_line, joined, written};
 use crate::images::image;
 use crate::index::operations;
-use crate::playing::{NO_ROOM, calm, play};
+use crate::played_run::{NO_ROOM, calm, play};
 use crate::rows::{number_of, parted};
 use crate::told::{holds, same};
 use crate::tpca::SUMS;

@@ -8,8 +8,8 @@ use Rattle.envy_pair.specs.Ending.{Boards, board_at, HasFallen}
 use Rattle.envy_pair.specs.MirrorRun.{MirrorTurn, mirror_grammar}
 use Rattle.envy_pair.specs.Serving.{long_mirror}
 use Rattle.envy_policy.specs.declared.setup.Setup.{Setup}
-use Rattle.envy_serve.specs.declared.serving.End.{End}
-use Rattle.envy_serve.specs.declared.serving.End.TheVariants.{Done as EndDone, ReadFault, WriteFault, FlushFault, Refused, Dead as EndDead, TooLong}
+use Rattle.envy_serve.specs.declared.server.End.{End}
+use Rattle.envy_serve.specs.declared.server.End.TheVariants.{Done as EndDone, ReadFault, WriteFault, FlushFault, Refused, Dead as EndDead, TooLong}
 use Rattle.envy_serve.specs.Ends.{Serves, Ends, HasServed}
 use Rattle.envy_serve.specs.GoodTrace.{IsGoodTrace}
 use Rattle.envy_serve.specs.Streams.{Streams}

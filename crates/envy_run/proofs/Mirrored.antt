@@ -21,7 +21,7 @@ use Rattle.envy_pair.specs.State.{begun}
 use Rattle.envy_pair.proofs.Beginning.{begins}
 use Rattle.envy_pair.proofs.Finishing.{IsUnused, AreUnused, boards_of, licences-either, mirrored, fallen, bill-either}
 use Rattle.envy_policy.specs.declared.setup.Setup.{Setup}
-use Rattle.envy_serve.specs.declared.serving.End.{End}
+use Rattle.envy_serve.specs.declared.server.End.{End}
 use Rattle.envy_serve.specs.Ends.{Serves, Ends, IsAtStart, most_bytes}
 use Rattle.envy_serve.specs.Streams.{Streams}
 use Rattle.envy_serve.proofs.Advancing.{Serves-as, served-either}

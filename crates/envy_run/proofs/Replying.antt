@@ -17,7 +17,7 @@ use Rattle.envy_trace.specs.declared.reply.Reply.{Reply}
 use Rattle.envy_trace.specs.declared.reply.Reply.TheVariants.{Word, Done, Started, Range, Held, Closed, Full, Busy, Fault, Lost, Restarted, Armed, Stat as StatLine}
 use Rattle.envy_run.specs.Answers.{Answered, AnswersTo}
 use Rattle.envy_run.specs.Licence.{Licence}
-use Rattle.envy_run.specs.declared.answers.Beside.{Beside}
+use Rattle.envy_run.specs.declared.answers.BoardRequest.{BoardRequest}
 use Rattle.envy_serve.specs.Answering.{said}
 use Rattle.envy_run.specs.Turns.{Replies, Says, Faults, TellsCounts}
 
@@ -130,7 +130,7 @@ answers-may May m line Restarted c (n, r, stands) = (n, replies-may May m line R
 answers-may May m line Armed c (n, r, stands) = (n, replies-may May m line Armed n r, stands)
 answers-may May m line (StatLine counts) c (n, r, stands) = (n, replies-may May m line (StatLine counts) n r, stands)
 
-abbrev answered : Reply → Result Reply Beside
+abbrev answered : Reply → Result Reply BoardRequest
 answered reply = Ok reply
 
 -- the answer says `lost` where the reply does

@@ -26,7 +26,7 @@ use Rattle.envy_memory.specs.Picture.{Picture}
 use Rattle.envy_policy.specs.Setup.{checked}
 use Rattle.envy_policy.specs.declared.setup.Setup.{Setup}
 use Rattle.envy_policy.specs.declared.setup.SetupFault.{SetupFault}
-use Rattle.envy_serve.specs.declared.serving.End.{End}
+use Rattle.envy_serve.specs.declared.server.End.{End}
 use Rattle.envy_serve.specs.Ends.{Serves, Ends, most_bytes}
 use Rattle.envy_serve.specs.GoodTrace.{IsGoodTrace}
 use Rattle.envy_serve.specs.Streams.{Streams}

@@ -25,9 +25,9 @@ use Rattle.envy_policy.specs.declared.setup.Setup.{Setup}
 use Rattle.envy_trace.specs.declared.line.Line.{Line}
 use Rattle.envy_trace.specs.declared.line.Line.TheVariants.{Empty, Load, Look, Store, Begin, Put, Commit, Abort, Tick, Power, Cut, Bad, Stat}
 use Rattle.envy_trace.specs.declared.reply.Reply.{Reply}
-use Rattle.envy_serve.specs.declared.service.Obeyed.{Obeyed}
-use Rattle.envy_serve.specs.declared.service.Obeyed.TheVariants.{Done, WriteFault, Dead}
-use Rattle.envy_serve.specs.declared.serving.End.{End}
+use Rattle.envy_serve.specs.declared.service.LineOutcome.{LineOutcome}
+use Rattle.envy_serve.specs.declared.service.LineOutcome.TheVariants.{Done, WriteFault, Dead}
+use Rattle.envy_serve.specs.declared.server.End.{End}
 use Rattle.envy_serve.specs.Ends.{Serves, Ends, most_bytes}
 use Rattle.envy_serve.specs.Obeys.{Obeys}
 use Rattle.envy_serve.specs.Streams.{Streams}
@@ -72,7 +72,7 @@ traced-done start old new turns t line replies left d = record {
 }
 
 -- a line that was done joins the turns
-pub traced-obeys : (start : Start) (old new : Picture) (turns : List TraceTurn) (line : Line) (obeyed : Obeyed) (sink then_sink : Drain) (t : TracedSince start old turns) → ObeysLine (MayTell old.chart.shape.entries turns) (HasDone.array t.done) line obeyed old new sink then_sink → Obeys obeyed trace_grammar (TracedSince start new) (DiedSince start new) turns line sink then_sink
+pub traced-obeys : (start : Start) (old new : Picture) (turns : List TraceTurn) (line : Line) (obeyed : LineOutcome) (sink then_sink : Drain) (t : TracedSince start old turns) → ObeysLine (MayTell old.chart.shape.entries turns) (HasDone.array t.done) line obeyed old new sink then_sink → Obeys obeyed trace_grammar (TracedSince start new) (DiedSince start new) turns line sink then_sink
 traced-obeys start old new turns line Done sink then_sink t (replies, left, done, told) = (replies, traced-done start old new turns t line replies left done, told)
 traced-obeys start old new turns line WriteFault sink then_sink t (replies, left, done, told) = (replies, traced-done start old new turns t line replies left done, told)
 traced-obeys start old new turns line Dead sink then_sink t (dead, told) = (

@@ -12,8 +12,8 @@ use Rattle.envy_trace.specs.declared.line.Line.TheVariants.{Empty, Power, Cut, B
 use Rattle.envy_trace.specs.declared.reply.Reply.{Reply}
 use Rattle.envy_trace.specs.declared.reply.Reply.TheVariants.{Lost}
 use Rattle.envy_run.specs.Licence.{Licence}
-use Rattle.envy_run.specs.declared.answers.Beside.{Beside}
-use Rattle.envy_run.specs.declared.answers.Beside.TheVariants.{Nothing, Power as OfPower, Plan as OfPlan}
+use Rattle.envy_run.specs.declared.answers.BoardRequest.{BoardRequest}
+use Rattle.envy_run.specs.declared.answers.BoardRequest.TheVariants.{Nothing, Power as OfPower, PlannedFault as OfPlan}
 use Rattle.envy_serve.specs.Answering.{losable}
 use Rattle.envy_run.specs.Turns.{Replies, plan_of, is_fault, is_lost}
 use Rattle.envy_serve.specs.Turns.{one_if}
@@ -24,7 +24,7 @@ line_of_plan (PlanCut k g) = Cut k g
 line_of_plan (PlanBad k g) = Bad k g
 
 -- the line that asks for this, which is no call of a memory over any board
-abbrev pub line_beside : Beside → Line
+abbrev pub line_beside : BoardRequest → Line
 line_beside Nothing = Empty
 line_beside OfPower = Power
 line_beside (OfPlan plan) = line_of_plan plan

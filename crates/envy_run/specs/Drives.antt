@@ -13,7 +13,7 @@ use Rattle.envy_layout.specs.Words.{durable}
 use Rattle.envy_map.specs.Fields.{Chart}
 use Rattle.envy_memory.specs.Calls.{fresh}
 use Rattle.envy_policy.specs.declared.setup.Setup.{Setup}
-use Rattle.envy_report.specs.Stat.{stat_bytes}
+use Rattle.envy_trace.specs.Stat.{stat_bytes}
 use Rattle.envy_serve.specs.Streams.{Streams}
 use Rattle.envy_tpca.specs.declared.sums.Sums.{Sums}
 use Rattle.envy_tpca.specs.Driving.{AddsUp, PlansCuts, accesses_of, last_cut, plans_in}

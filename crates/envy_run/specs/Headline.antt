@@ -3,7 +3,7 @@ use Rattle.std.specs.Prelude.{◌≡◌, ◌⊎◌, ℕ, ◌+◌, ◌≤◌, ⊤
 use Rattle.std.specs.String.{string_bytes}
 use Rattle.std.specs.declared.string.String.{String}
 use Rattle.envy_args.specs.declared.command.Command.{Command}
-use Rattle.envy_args.specs.declared.command.Command.TheVariants.{Run, Plain, Tpca, Gen, Save, Resume, Audit, Segments, Index, Mirror}
+use Rattle.envy_args.specs.declared.command.Command.TheVariants.{Run, Plain, Tpca, Gen, Save, Resume, Audit, Map, Index, Mirror}
 use Rattle.envy_args.specs.declared.command.WordsFault.{WordsFault}
 use Rattle.envy_args.specs.declared.command.WordsFault.TheVariants.{Form, Setup as Rule, Memory}
 use Rattle.envy_args.specs.Words.{command_of}
@@ -147,7 +147,7 @@ meaning_of (Ok (Tpca setup returns start area every)) = driving setup returns st
 meaning_of (Ok (Save setup returns)) = serving (save_task setup returns)
 meaning_of (Ok (Resume policy limit mark returns most)) = resuming most (setup_found policy limit mark) returns
 meaning_of (Ok (Audit most)) = judging most IsVerdict
-meaning_of (Ok (Segments most)) = judging most IsMap
+meaning_of (Ok (Map most)) = judging most IsMap
 meaning_of (Ok (Index setup returns)) = serving (index_task setup returns)
 meaning_of (Ok (Mirror setup returns)) = serving (mirror_task setup returns)
 meaning_of (Err Form) = boardless (Refuses 0)

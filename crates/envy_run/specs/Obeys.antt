@@ -11,8 +11,8 @@ use Rattle.envy_layout.specs.Words.{durable}
 use Rattle.envy_trace.specs.declared.line.Line.{Line}
 use Rattle.envy_trace.specs.declared.reply.Reply.{Reply}
 use Rattle.envy_trace.specs.declared.reply.Reply.TheVariants.{Lost}
-use Rattle.envy_serve.specs.declared.service.Obeyed.{Obeyed}
-use Rattle.envy_serve.specs.declared.service.Obeyed.TheVariants.{Done, WriteFault, Dead}
+use Rattle.envy_serve.specs.declared.service.LineOutcome.{LineOutcome}
+use Rattle.envy_serve.specs.declared.service.LineOutcome.TheVariants.{Done, WriteFault, Dead}
 use Rattle.envy_memory.specs.Picture.{Picture}
 use Rattle.envy_run.specs.Answers.{AnswerLicence, AnswersTo}
 use Rattle.envy_run.specs.Below.{WorksOf}
@@ -55,7 +55,7 @@ pub record LineDead (m : Array) (line : Line) (old new : Chart) : Type 0 where
   pub licensed : Licensed line (before_restart line) old new
   pub spent : Spends (programs_of old.shape.rows line) (erases_of line) old new
 
-abbrev pub ObeysLine : (Counts → Type 0) → Array → Line → Obeyed → Picture → Picture → Drain → Drain → Type 0
+abbrev pub ObeysLine : (Counts → Type 0) → Array → Line → LineOutcome → Picture → Picture → Drain → Drain → Type 0
 ObeysLine May m line Done old new sink then_sink = (replies : List Reply) × (left : Array) × LineDone May m line replies left old new × Written (texts trace_grammar replies) sink then_sink
 ObeysLine May m line WriteFault old new sink then_sink = (replies : List Reply) × (left : Array) × LineDone May m line replies left old new × FrontWritten (texts trace_grammar replies) sink then_sink
 ObeysLine May m line Dead old new sink then_sink = LineDead m line old.chart new.chart × (Written (texts trace_grammar (before_restart line)) sink then_sink ⊎ FrontWritten (texts trace_grammar (before_restart line)) sink then_sink)

@@ -20,7 +20,7 @@ use envy_array::Counts;
 use envy_io::{Failed, Lines, Sink, Source};
 use envy_plain::{Plain, Refusal};
 use envy_policy::Setup;
-use envy_serve::{MOST_BYTES, Obeyed, Service, serve};
+use envy_serve::{LineOutcome, MOST_BYTES, Service, serve};
 use envy_trace::{Line, LineFault, Reply};
 use std::alloc::Global;
 
@@ -130,10 +130,10 @@ impl Service for Calm {
         read_any(bytes)
     }
 
-    fn obey<K: Sink>(&mut self, line: &Line, sink: &mut K) -> Obeyed {
+    fn obey<K: Sink>(&mut self, line: &Line, sink: &mut K) -> LineOutcome {
         match obey_plain(&mut self.plain, sink, line, &mut self.buffer) {
-            Ok(()) => Obeyed::Done,
-            Err(Failed) => Obeyed::WriteFault,
+            Ok(()) => LineOutcome::Done,
+            Err(Failed) => LineOutcome::WriteFault,
         }
     }
 

@@ -1,8 +1,8 @@
 //! A chip that is driven by the bytes that are written to it.
 
 use crate::told::{same, same_at};
+use envy_bank::{Chip, READ_ARRAY};
 use envy_cfi::{Bus, ModelBus};
-use envy_chip::{Chip, READ_ARRAY};
 use std::alloc::Global;
 use std::process::Abort;
 

@@ -3,8 +3,8 @@
 ghost use Rattle.std.specs.Prelude.{None};
 
 use crate::told::{same, same_at};
+use envy_bank::Chip;
 use envy_cfi::{Bus, DriverFault, ModelBus, erase_block, program_byte, program_row};
-use envy_chip::Chip;
 use std::process::Abort;
 
 const FAILED: Result<(), DriverFault> = Err(DriverFault::Failed);

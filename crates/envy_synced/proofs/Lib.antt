@@ -1,3 +1,4 @@
 pub mod Going
 pub mod Lightened
 pub mod Telling
+pub mod Reopened

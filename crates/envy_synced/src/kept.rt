@@ -13,8 +13,8 @@ ghost use Rattle.envy_synced.specs.Disk.{CrashLeaves, IsKept, IsCompact, IsHinde
 
 use crate::light::{erase, program, put};
 use envy_base::{Board, Off, Page, Shape, Trouble};
-use envy_device::{Device, Place};
-use envy_disk::{Compaction, OnDisk};
+use envy_device::{Device, Replaceable};
+use envy_disk::{Compaction, Durable};
 use envy_journal::{Journaled, Steady};
 use std::mem;
 use std::snapshot::Snapshot;
@@ -112,7 +112,7 @@ impl<B: Steady, D: Device> Board for Kept<B, D> {
     }
 }
 
-impl<B: Steady, D: Place> OnDisk for Kept<B, D> {
+impl<B: Steady, D: Replaceable> Durable for Kept<B, D> {
     ghost is_synced = { IsSynced };
 
     ghost is_compact = { IsCompact };

@@ -1,8 +1,7 @@
 //! A source and a sink that hold bytes back.
 
 use crate::told::{same, same_bytes};
-use envy_io::{Failed, MemSink, MemSource, Sink, Source, write_all};
-use envy_streams::{BufferedSink, BufferedSource};
+use envy_io::{BufferedSink, BufferedSource, Failed, MemSink, MemSource, Sink, Source, write_all};
 use std::alloc::Global;
 use std::process::Abort;
 

@@ -3,7 +3,7 @@
 use crate::told::{same, same_bytes};
 use arrayvec::ArrayVec;
 use envy_array::Counts;
-use envy_report::{cost, stat_text};
+use envy_trace::{cost, stat_text};
 use std::process::Abort;
 
 const EACH: Counts = Counts {

@@ -4,7 +4,7 @@
 use crate::told::{same, same_bytes};
 use arrayvec::ArrayVec;
 use envy_io::{Failed, Lines, MemSink, MemSource, Sink, write_all};
-use envy_serve::{End, Obeyed, Service, conclude, fetch};
+use envy_serve::{End, LineOutcome, Service, conclude, fetch};
 use envy_trace::{Line, LineFault, read_line};
 use std::alloc::Global;
 use std::process::Abort;
@@ -38,14 +38,14 @@ impl Service for Digits {
         read_line(bytes)
     }
 
-    fn obey<K: Sink>(&mut self, line: &Line, sink: &mut K) -> Obeyed {
+    fn obey<K: Sink>(&mut self, line: &Line, sink: &mut K) -> LineOutcome {
         let digit = match *line {
             Line::Load { address } => b'0' + (address % 10) as u8,
             _ => b'-',
         };
         match write_all(sink, &[digit, b'\n']) {
-            Ok(()) => Obeyed::Done,
-            Err(Failed) => Obeyed::WriteFault,
+            Ok(()) => LineOutcome::Done,
+            Err(Failed) => LineOutcome::WriteFault,
         }
     }
 

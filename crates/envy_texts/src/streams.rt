@@ -2,7 +2,7 @@
 
 use crate::told::{same, same_bytes};
 use arrayvec::ArrayVec;
-use envy_io::{Failed, Got, Lines, MemSink, MemSource, Next, Sink, Source, write_all};
+use envy_io::{Failed, Lines, MemSink, MemSource, Next, ReadOutcome, Sink, Source, write_all};
 use std::alloc::Global;
 use std::process::Abort;
 
@@ -12,7 +12,7 @@ enum Ask {
     /// The next line, with its text.
     Line(Next, &'static str),
     /// The next four bytes, and which they are, where that is said.
-    Bytes(Got, Option<&'static str>),
+    Bytes(ReadOutcome, Option<&'static str>),
     /// How many bytes were taken from the source.
     Taken(u64),
 }
@@ -177,9 +177,9 @@ const READINGS: [(&str, Reading); 9] = [
             cap: 1000,
             asks: &[
                 Ask::Line(Next::Line, "ab"),
-                Ask::Bytes(Got::Whole, Some("cdef")),
+                Ask::Bytes(ReadOutcome::Whole, Some("cdef")),
                 Ask::Line(Next::Line, "gh"),
-                Ask::Bytes(Got::Short, None),
+                Ask::Bytes(ReadOutcome::Short, None),
                 Ask::Line(Next::End, ""),
             ],
         },
@@ -192,9 +192,9 @@ const READINGS: [(&str, Reading); 9] = [
             fails: &[],
             cap: 5,
             asks: &[
-                Ask::Bytes(Got::Whole, None),
+                Ask::Bytes(ReadOutcome::Whole, None),
                 Ask::Taken(4),
-                Ask::Bytes(Got::Spent, None),
+                Ask::Bytes(ReadOutcome::Spent, None),
                 Ask::Taken(5),
             ],
         },
@@ -207,9 +207,9 @@ const READINGS: [(&str, Reading); 9] = [
             fails: &[2],
             cap: 100,
             asks: &[
-                Ask::Bytes(Got::Failed, None),
+                Ask::Bytes(ReadOutcome::Failed, None),
                 Ask::Taken(2),
-                Ask::Bytes(Got::Whole, Some("cdef")),
+                Ask::Bytes(ReadOutcome::Whole, Some("cdef")),
             ],
         },
     ),

@@ -138,7 +138,7 @@ const DEFAULTS: [Row; 10] = [
         }),
     ),
     ("audit", Ok(Command::Audit { most: ROWS })),
-    ("map", Ok(Command::Segments { most: ROWS })),
+    ("map", Ok(Command::Map { most: ROWS })),
     (
         "resume",
         Ok(Command::Resume {
@@ -327,7 +327,7 @@ const OPTIONS: [Row; 21] = [
         }),
     ),
     ("audit --large 1", Ok(Command::Audit { most: 16777216 })),
-    ("map --large=0", Ok(Command::Segments { most: ROWS })),
+    ("map --large=0", Ok(Command::Map { most: ROWS })),
 ];
 
 // Numbers go to the end of their width.

@@ -48,7 +48,7 @@ returns-in-Ok-clause-answer g c =
       and-true q.chart.on lit,
       started-words p q c.in-Ok.field-0 on lit held c.in-Ok.ensures.step ∙ sym (words-as p b false shut),
       started-kept p q c.in-Ok.field-0 on held c.in-Ok.ensures.step,
-      ap (λ (o : Ownership). pages_of o.pairs) same ∙ start-pages p on held c.known.ensures.unowned,
+      ap (λ (o : Ownership). pages_of o.pairs) same ∙ start-pages p on held c.invariant_holds.ensures.unowned,
     )
 
 pub returns-in-Err-Off-clause-answer : goal.returns-in-Err-Off-clause-answer

@@ -7,8 +7,8 @@ use Rattle.envy_map.specs.Fields.{Fields, chart}
 use Rattle.envy_layout.specs.Same.{Same, Stays, Framed}
 use Rattle.envy_layout.specs.Sound.{Sound, IsSpare}
 use Rattle.envy_space.specs.Pool.{IsPoolOf}
-use Rattle.envy_reloc.specs.declared.copying.Left.{Left}
-use Rattle.envy_reloc.specs.declared.moving.Move.{Move}
+use Rattle.envy_reloc.specs.declared.row_copy.Left.{Left}
+use Rattle.envy_reloc.specs.declared.row_move.Move.{Move}
 use Rattle.envy_reloc.specs.Phases.{NextMove}
 use Rattle.envy_reloc.specs.Plan.{Plan, IsPlanOf}
 use Rattle.envy_reloc.specs.Rows.{NextKept, HasRoom, IsLowestRoom}
