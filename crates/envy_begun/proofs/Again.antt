@@ -14,8 +14,8 @@ use Rattle.envy_begun.specs.Opens.{OpensAs}
 use Rattle.envy_begun.specs.Plans.{BeginsOn, IsOpened}
 use Rattle.envy_begun.specs.Unserved.{Declines, HasNoWords, Refrains}
 use Rattle.envy_begun.specs.declared.file_contents.FileContents.TheVariants.{Written}
-use Rattle.envy_begun.specs.declared.unbegun.OpenFault.{OpenFault}
-use Rattle.envy_begun.specs.declared.unbegun.OpenFault.TheVariants.{Damaged, Failed, Memory, NoJournal}
+use Rattle.envy_begun.specs.declared.open_fault.OpenFault.{OpenFault}
+use Rattle.envy_begun.specs.declared.open_fault.OpenFault.TheVariants.{Damaged, Failed, Memory, NoJournal}
 use Rattle.envy_begun.proofs.Opening.{IsGood, opens-as}
 use Rattle.envy_calls.specs.Making.{Forbids, IsWhole}
 use Rattle.envy_calls.specs.declared.code.Code.{Code}

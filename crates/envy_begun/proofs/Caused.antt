@@ -7,8 +7,8 @@ use Rattle.envy_base.specs.declared.shape.Shape.{Shape}
 use Rattle.envy_begun.specs.Beginning.{HasStopped, IsStopped}
 use Rattle.envy_begun.specs.Plans.{ComesLater, IsFound, IsPlanned}
 use Rattle.envy_begun.specs.Unserved.{Causes, Declines, HasNoMemory, IsOver, Refrains, Refuses, held_for, status_for}
-use Rattle.envy_begun.specs.declared.unbegun.OpenFault.{OpenFault}
-use Rattle.envy_begun.specs.declared.unbegun.OpenFault.TheVariants.{Setup, NoJournal, OtherVersion, OtherSizes, Options, Damaged, Memory, NotMade, Failed}
+use Rattle.envy_begun.specs.declared.open_fault.OpenFault.{OpenFault}
+use Rattle.envy_begun.specs.declared.open_fault.OpenFault.TheVariants.{Setup, NoJournal, OtherVersion, OtherSizes, Options, Damaged, Memory, NotMade, Failed}
 use Rattle.envy_begun.proofs.Again.{declines-for}
 use Rattle.envy_journal.specs.Content.{HasMisfit}
 use Rattle.envy_journal.specs.Reading.{operations}

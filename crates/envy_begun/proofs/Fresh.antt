@@ -13,8 +13,8 @@ use Rattle.envy_begun.specs.Left.{IsUnformatted, Leaves, OpensAsZeros, StaysNew}
 use Rattle.envy_begun.specs.Beginning.{IsStopped}
 use Rattle.envy_begun.specs.Unserved.{Refrains}
 use Rattle.envy_begun.specs.Opens.{OpensAs}
-use Rattle.envy_begun.specs.declared.unbegun.OpenFault.{OpenFault}
-use Rattle.envy_begun.specs.declared.unbegun.OpenFault.TheVariants.{Damaged, Failed, Memory, NoJournal, NotMade, Setup, OtherVersion, OtherSizes, Options}
+use Rattle.envy_begun.specs.declared.open_fault.OpenFault.{OpenFault}
+use Rattle.envy_begun.specs.declared.open_fault.OpenFault.TheVariants.{Damaged, Failed, Memory, NoJournal, NotMade, Setup, OtherVersion, OtherSizes, Options}
 use Rattle.envy_begun.proofs.Again.{SaysFault}
 use Rattle.envy_begun.proofs.Alike.{leaves-as, leaves-on}
 use Rattle.envy_begun.proofs.Opening.{opens-as}

@@ -2,8 +2,8 @@
 use Rattle.std.specs.Prelude.{◌≡◌, ℕ, ◌+◌, ◌^◌, ◌<◌, ◌≤◌, IsTrue, Bool, false, List, ◌∷◌, length}
 use Rattle.envy_base.specs.Shape.{version_of}
 use Rattle.envy_array.specs.Array.{Array, undone}
-use Rattle.envy_begun.specs.declared.unbegun.OpenFault.{OpenFault}
-use Rattle.envy_begun.specs.declared.unbegun.OpenFault.TheVariants.{Failed, Memory, NotMade}
+use Rattle.envy_begun.specs.declared.open_fault.OpenFault.{OpenFault}
+use Rattle.envy_begun.specs.declared.open_fault.OpenFault.TheVariants.{Failed, Memory, NotMade}
 use Rattle.envy_journal.specs.Held.{most_held}
 use Rattle.envy_journal.specs.Reading.{operations}
 use Rattle.envy_synced.specs.Disk.{IsLast, IsSynced}

@@ -17,8 +17,8 @@ use Rattle.envy_policy.specs.Setup.{checked}
 use Rattle.envy_policy.specs.declared.setup.Setup.{Setup}
 use Rattle.envy_begun.specs.declared.file_contents.FileContents.{FileContents}
 use Rattle.envy_begun.specs.declared.file_contents.FileContents.TheVariants.{Unmade, Blank, Written}
-use Rattle.envy_begun.specs.declared.unbegun.OpenFault.{OpenFault}
-use Rattle.envy_begun.specs.declared.unbegun.OpenFault.TheVariants.{Memory, NotMade, Failed}
+use Rattle.envy_begun.specs.declared.open_fault.OpenFault.{OpenFault}
+use Rattle.envy_begun.specs.declared.open_fault.OpenFault.TheVariants.{Memory, NotMade, Failed}
 use Rattle.envy_begun.specs.Opens.{OpensAs}
 use Rattle.envy_begun.specs.Unserved.{IsOver}
 use Rattle.envy_synced.specs.Disk.{IsLast, IsSynced, Reopens}

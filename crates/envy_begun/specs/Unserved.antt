@@ -15,8 +15,8 @@ use Rattle.envy_args.specs.Words.{rule_within}
 use Rattle.envy_base.specs.declared.shape.TheConstants.{MOST_ROWS}
 use Rattle.envy_begun.specs.Beginning.{HasStopped, IsStopped}
 use Rattle.envy_begun.specs.Opens.{OpensAs}
-use Rattle.envy_begun.specs.declared.unbegun.OpenFault.{OpenFault}
-use Rattle.envy_begun.specs.declared.unbegun.OpenFault.TheVariants.{Setup, NoJournal, OtherVersion, OtherSizes, Options, Damaged, Memory, NotMade, Failed}
+use Rattle.envy_begun.specs.declared.open_fault.OpenFault.{OpenFault}
+use Rattle.envy_begun.specs.declared.open_fault.OpenFault.TheVariants.{Setup, NoJournal, OtherVersion, OtherSizes, Options, Damaged, Memory, NotMade, Failed}
 
 abbrev pub status_for : OpenFault → ℕ
 status_for (Setup fault) = 2

@@ -3,7 +3,7 @@ ghost use Rattle.std.specs.Prelude.{◌≡◌, ◌≢◌, ◌↔◌, ◌⊎◌, 
 ghost use Rattle.envy_args.specs.Keep.{new_shape, setup_over};
 ghost use Rattle.envy_args.specs.declared.keep.KeepOptions.{KeepOptions as Options};
 ghost use Rattle.envy_policy.specs.declared.setup.SetupFault.{SetupFault};
-ghost use Rattle.envy_begun.specs.declared.unbegun.OpenFault.TheVariants.{Setup as OfSetup};
+ghost use Rattle.envy_begun.specs.declared.open_fault.OpenFault.TheVariants.{Setup as OfSetup};
 ghost use Rattle.envy_base.specs.Shape.{IsShape, checked as shape_checked};
 ghost use Rattle.envy_journal.specs.Head.{HasSixSizes, IsUnmade, head_bytes};
 ghost use Rattle.envy_journal.specs.Log.{Begins};
@@ -12,7 +12,7 @@ ghost use Rattle.envy_begun.specs.Plans.{IsFound, Plans};
 ghost use Rattle.envy_begun.specs.Unserved.{Refuses};
 ghost use Rattle.envy_policy.specs.Setup.{checked};
 
-use crate::unbegun::OpenFault;
+use crate::open_fault::OpenFault;
 use envy_args::KeepOptions;
 use envy_base::Shape;
 use envy_journal::{HeadError, has_operations, read_head};

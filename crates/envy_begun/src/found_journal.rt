@@ -14,7 +14,7 @@ ghost use Rattle.envy_begun.specs.declared.file_contents.FileContents.TheVariant
 ghost use Rattle.envy_begun.specs.Left.{Leaves, OpensAlike, StaysNew, StaysWritten};
 ghost use Rattle.envy_begun.specs.Opens.{OpensAs};
 ghost use Rattle.envy_begun.specs.Unserved.{Declines, HasNoWords, Refrains};
-ghost use Rattle.envy_begun.specs.declared.unbegun.OpenFault.TheVariants.{Memory as UnbegunMemory, NoJournal as UnbegunNoJournal};
+ghost use Rattle.envy_begun.specs.declared.open_fault.OpenFault.TheVariants.{Memory as UnbegunMemory, NoJournal as UnbegunNoJournal};
 ghost use Rattle.envy_calls.specs.Making.{Forbids, IsWhole};
 ghost use Rattle.envy_calls.specs.declared.code.Code.{Code as OfCode};
 ghost use Rattle.envy_calls.specs.declared.code.Code.TheVariants.{NoMemory as CodeNoMemory};
@@ -25,8 +25,8 @@ ghost use Rattle.envy_memory.specs.Formats.{IsFresh};
 ghost use Rattle.envy_policy.specs.Setup.{checked};
 
 use crate::new_memory::{ROOM, closed, make_memory};
+use crate::open_fault::OpenFault;
 use crate::refusal::{no_second, unattached, unopened};
-use crate::unbegun::OpenFault;
 use envy_base::Off;
 use envy_calls::{Code, refusal};
 use envy_device::{Device, Replaceable};

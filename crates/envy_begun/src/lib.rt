@@ -9,11 +9,11 @@ mod file_contents;
 mod found_journal;
 mod memory;
 mod new_memory;
+mod open_fault;
 mod refusal;
-mod unbegun;
 
 pub use file_contents::{FileContents, plan};
 pub use found_journal::begin_again;
 pub use memory::begin;
 pub use new_memory::begin_new;
-pub use unbegun::OpenFault;
+pub use open_fault::OpenFault;

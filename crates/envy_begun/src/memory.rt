@@ -13,7 +13,7 @@ ghost use Rattle.envy_synced.specs.Disk.{IsCompact};
 use crate::file_contents::FileContents;
 use crate::found_journal::{begin_again, begin_blank};
 use crate::new_memory::begin_new;
-use crate::unbegun::OpenFault;
+use crate::open_fault::OpenFault;
 use envy_args::KeepOptions;
 use envy_device::Replaceable;
 use envy_journal::Steady;

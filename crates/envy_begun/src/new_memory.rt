@@ -11,8 +11,8 @@ ghost use Rattle.envy_map.specs.Fields.{Chart, chart};
 ghost use Rattle.envy_synced.specs.Disk.{CrashLeaves, IsLast, IsSynced};
 ghost use Rattle.envy_memory.specs.Formats.{IsFresh, IsStarted};
 
+use crate::open_fault::OpenFault;
 use crate::refusal::{unformatted, unopened};
-use crate::unbegun::OpenFault;
 use envy_base::Off;
 use envy_device::{Device, Replaceable};
 use envy_journal::{Steady, create};

@@ -1,12 +1,12 @@
 // Why no memory began in a file, and the file. A crash leaves of it what it might have left before.
 ghost use Rattle.std.specs.Prelude.{◌≡◌, ◌≢◌, ◌⊎◌, ◌≤◌, ℕ, List};
 ghost use Rattle.envy_begun.specs.Beginning.{IsStopped};
-ghost use Rattle.envy_begun.specs.declared.unbegun.OpenFault.TheVariants.{Failed};
+ghost use Rattle.envy_begun.specs.declared.open_fault.OpenFault.TheVariants.{Failed};
 ghost use Rattle.envy_journal.specs.declared.open_error.OpenError.TheVariants.{Failed as OpenFailed};
 ghost use Rattle.envy_memory.specs.declared.faults.AttachFault.TheVariants.{Off as AttachOff};
 ghost use Rattle.envy_memory.specs.declared.faults.FormatFault.TheVariants.{Off as FormatOff};
 
-use crate::unbegun::OpenFault;
+use crate::open_fault::OpenFault;
 use envy_device::{Device, DeviceFailed};
 use envy_journal::OpenError;
 use envy_memory::{AttachFault, FormatFault};

@@ -7,10 +7,10 @@
 //! never more than the device counts itself. Everything that is proved of boards holds of it.
 #![tactic(auto)]
 
-mod any_board;
-mod counted;
+mod loose_board;
 mod maker;
+mod strict_board;
 
-pub use any_board::{LooseBench, LooseBoard, LooseMaker};
-pub use counted::StrictBoard;
+pub use loose_board::{LooseBench, LooseBoard, LooseMaker};
 pub use maker::StrictMaker;
+pub use strict_board::StrictBoard;

@@ -2,7 +2,7 @@
 use Rattle.std.specs.Prelude.{Bool, List, ℕ}
 use Rattle.envy_hostfile.specs.declared.host.HostCalls.{HostCalls}
 use Rattle.envy_device.specs.Calls.{seen_after, MayLeave, have_failed}
-use Rattle.envy_device.specs.declared.recorded.LoggedFile.{LoggedFile}
+use Rattle.envy_device.specs.declared.logged_file.LoggedFile.{LoggedFile}
 
 abbrev pub host_bytes : {F P : Type 0} → LoggedFile (HostCalls F P) → List ℕ
 host_bytes host = seen_after host.file.record.calls

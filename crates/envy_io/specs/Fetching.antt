@@ -1,8 +1,8 @@
 -- What a call of `next_bytes` takes and answers: so many bytes of a source, whatever lines they are.
 use Rattle.std.specs.Prelude.{◌≡◌, ◌⊎◌, ℕ, ◌+◌, ◌<◌, ◌≤◌, min, false, IsTrue, List, [], ◌++◌, length, take, drop, Result, Ok, Err}
 use Rattle.envy_io.specs.declared.source.Failed.{Failed as NoBytes}
-use Rattle.envy_io.specs.declared.lines.next_bytes.ReadOutcome.{ReadOutcome}
-use Rattle.envy_io.specs.declared.lines.next_bytes.ReadOutcome.TheVariants.{Whole, Short, Failed, Spent}
+use Rattle.envy_io.specs.declared.lines.read_outcome.ReadOutcome.{ReadOutcome}
+use Rattle.envy_io.specs.declared.lines.read_outcome.ReadOutcome.TheVariants.{Whole, Short, Failed, Spent}
 use Rattle.envy_io.specs.Streams.{Feed, Rises, IsDry, with_front}
 use Rattle.envy_io.specs.Taking.{Taking}
 

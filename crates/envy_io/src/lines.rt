@@ -10,9 +10,9 @@ use arrayvec::ArrayVec;
 use memchr::memchr;
 use std::marker::Model;
 
-mod next_bytes;
+mod read_outcome;
 
-pub use next_bytes::Got;
+pub use read_outcome::Got;
 
 /// The most bytes that a line has before its newline.
 const LINE: usize = 120;

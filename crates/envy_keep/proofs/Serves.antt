@@ -10,7 +10,7 @@ use Rattle.envy_begun.specs.Plans.{BeginsAs, BeginsOn, ComesLater, Plans}
 use Rattle.envy_begun.specs.Unserved.{Causes, held_for, place_for, status_for, why_for}
 use Rattle.envy_begun.specs.declared.file_contents.FileContents.{FileContents}
 use Rattle.envy_begun.specs.declared.file_contents.FileContents.TheVariants.{Written}
-use Rattle.envy_begun.specs.declared.unbegun.OpenFault.{OpenFault}
+use Rattle.envy_begun.specs.declared.open_fault.OpenFault.{OpenFault}
 use Rattle.envy_begun.proofs.Caused.{stopped-unserved}
 use Rattle.envy_device.specs.Device.{Only}
 use Rattle.envy_io.specs.Streams.{Drain, Feed}

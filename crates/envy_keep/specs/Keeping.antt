@@ -4,7 +4,7 @@ use Rattle.envy_args.specs.declared.keep.KeepOptions.{KeepOptions}
 use Rattle.envy_array.specs.Array.{Array}
 use Rattle.envy_begun.specs.declared.file_contents.FileContents.{FileContents}
 use Rattle.envy_begun.specs.declared.file_contents.FileContents.TheVariants.{Written}
-use Rattle.envy_begun.specs.declared.unbegun.OpenFault.{OpenFault}
+use Rattle.envy_begun.specs.declared.open_fault.OpenFault.{OpenFault}
 use Rattle.envy_begun.specs.Beginning.{HasOperationsOf}
 use Rattle.envy_begun.specs.Left.{Leaves, Stays}
 use Rattle.envy_begun.specs.Plans.{BeginsAs, BeginsOn, ComesLater, Plans}

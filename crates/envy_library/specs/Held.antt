@@ -8,17 +8,17 @@ use mir.Syntax.{named}
 use base.Fml.{Fml, ftrue}
 use Rattle.envy_bench.specs.contracts.calm.CalmBoard as calm_board
 use Rattle.envy_bench.specs.contracts.calm.CalmBoardBoard.TheImpl as calm
-use Rattle.envy_region.specs.contracts.owned.OwnedBoard as owned_board
-use Rattle.envy_region.specs.contracts.owned.OwnedBoardBoard.TheImpl as owned
+use Rattle.envy_region.specs.contracts.owned_board.OwnedBoard as owned_board
+use Rattle.envy_region.specs.contracts.owned_board.OwnedBoardBoard.TheImpl as owned
 use Rattle.envy_journal.specs.contracts.steady.OwnedBoardSteady.TheImpl as steady
 use Rattle.envy_places.specs.contracts.place.MemoryPlace as place
 use Rattle.envy_places.specs.declared.place.MemoryPlace.TheVariants.{Regions}
 use Rattle.envy_portfile.specs.contracts.port.FilePort as file_port
 use Rattle.envy_portfile.specs.contracts.port.FilePortFileCalls.TheImpl as raw
-use Rattle.envy_device.specs.contracts.recorded.LoggedFile as recorded
-use Rattle.envy_device.specs.contracts.recorded.LoggedFileDevice.TheImpl as device
-use Rattle.envy_region.specs.contracts.board.BorrowedBoard as region_board
-use Rattle.envy_region.specs.contracts.board.BorrowedBoardBoard.TheImpl as region
+use Rattle.envy_device.specs.contracts.logged_file.LoggedFile as recorded
+use Rattle.envy_device.specs.contracts.logged_file.LoggedFileDevice.TheImpl as device
+use Rattle.envy_region.specs.contracts.borrowed_board.BorrowedBoard as region_board
+use Rattle.envy_region.specs.contracts.borrowed_board.BorrowedBoardBoard.TheImpl as region
 use Rattle.envy_synced.specs.contracts.kept.Kept as kept
 use Rattle.envy_synced.specs.contracts.kept.KeptBoard.TheImpl as journaled
 

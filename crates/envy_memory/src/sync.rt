@@ -1,6 +1,6 @@
 ghost use Rattle.std.specs.Prelude.{◌≡◌, IfOk, OnOk};
 ghost use Rattle.envy_disk.specs.Disk.{SyncsChart};
-ghost use Rattle.envy_disk.specs.declared.on_disk.Compaction.TheVariants.{Done, Appended};
+ghost use Rattle.envy_disk.specs.declared.durable_board.Compaction.TheVariants.{Done, Appended};
 
 use crate::memory::Memory;
 use envy_base::Off;

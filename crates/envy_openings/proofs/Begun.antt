@@ -7,14 +7,14 @@ use Rattle.envy_begun.specs.Plans.{IsFound, IsPlanned, Plans}
 use Rattle.envy_begun.specs.Unserved.{Causes, Refuses}
 use Rattle.envy_begun.specs.declared.file_contents.FileContents.{FileContents}
 use Rattle.envy_begun.specs.declared.file_contents.FileContents.TheVariants.{Unmade, Blank, Written}
-use Rattle.envy_begun.specs.declared.unbegun.OpenFault.{OpenFault}
-use Rattle.envy_begun.specs.declared.unbegun.OpenFault.TheVariants.{Setup, NoJournal, OtherVersion, OtherSizes, Options, Damaged, Memory, NotMade, Failed}
+use Rattle.envy_begun.specs.declared.open_fault.OpenFault.{OpenFault}
+use Rattle.envy_begun.specs.declared.open_fault.OpenFault.TheVariants.{Setup, NoJournal, OtherVersion, OtherSizes, Options, Damaged, Memory, NotMade, Failed}
 use Rattle.envy_journal.specs.Head.{HasSixSizes}
 use Rattle.envy_journal.specs.Journal.{journal_state}
 use Rattle.envy_policy.specs.declared.setup.Setup.{Setup as OfSetup}
 use Rattle.envy_portfile.specs.declared.port.FilePort.{FilePort}
 use Rattle.envy_device.specs.Calls.{have_failed, seen_after}
-use Rattle.envy_device.specs.declared.recorded.LoggedFile.{LoggedFile}
+use Rattle.envy_device.specs.declared.logged_file.LoggedFile.{LoggedFile}
 use Rattle.envy_openings.specs.Files.{RefusesFile, options_of}
 
 -- a setup of these numbers of segments kept back and of sums

@@ -8,8 +8,8 @@ use Rattle.envy_begun.specs.Plans.{BeginsAs, BeginsOn, IsPlanned, Plans}
 use Rattle.envy_begun.specs.Unserved.{Refuses}
 use Rattle.envy_begun.specs.declared.file_contents.FileContents.{FileContents}
 use Rattle.envy_begun.specs.declared.file_contents.FileContents.TheVariants.{Written}
-use Rattle.envy_begun.specs.declared.unbegun.OpenFault.{OpenFault}
-use Rattle.envy_begun.specs.declared.unbegun.OpenFault.TheVariants as unbegun
+use Rattle.envy_begun.specs.declared.open_fault.OpenFault.{OpenFault}
+use Rattle.envy_begun.specs.declared.open_fault.OpenFault.TheVariants as unbegun
 use Rattle.envy_calls.specs.Making.{ForSetup, IsNoSetup}
 use Rattle.envy_calls.specs.Setups.{setup_of}
 use Rattle.envy_calls.specs.declared.code.Code.{Code}

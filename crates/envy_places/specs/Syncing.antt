@@ -5,8 +5,8 @@ use Rattle.envy_calls.specs.Codes.{number_of}
 use Rattle.envy_calls.specs.declared.code.Code.{Code}
 use Rattle.envy_calls.specs.declared.code.Code.TheVariants.{Done, Empty, Off}
 use Rattle.envy_disk.specs.Disk.{SyncsChart}
-use Rattle.envy_disk.specs.declared.on_disk.Compaction.{Compaction}
-use Rattle.envy_disk.specs.declared.on_disk.Compaction.TheVariants as compaction
+use Rattle.envy_disk.specs.declared.durable_board.Compaction.{Compaction}
+use Rattle.envy_disk.specs.declared.durable_board.Compaction.TheVariants as compaction
 use Rattle.envy_map.specs.Fields.{Chart}
 use Rattle.envy_memory.specs.Picture.{Picture}
 use Rattle.envy_places.specs.Codes.{number_of_place}

@@ -8,12 +8,12 @@
 //! a call, what it leaves is what a failure of power leaves. Nothing costs more than the words that it writes.
 #![tactic(auto)]
 
-mod board;
-mod ordered;
-mod owned;
+mod borrowed_board;
+mod ordered_board;
+mod owned_board;
 #[cfg(test)]
 mod tests;
 
-pub use board::{BorrowedBoard, anded, fill};
-pub use ordered::{Fence, OrderedBoard};
-pub use owned::OwnedBoard;
+pub use borrowed_board::{BorrowedBoard, anded, fill};
+pub use ordered_board::{Fence, OrderedBoard};
+pub use owned_board::OwnedBoard;

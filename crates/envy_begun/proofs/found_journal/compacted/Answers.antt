@@ -1,5 +1,5 @@
 use Rattle.std.proofs.Common.{refl}
-use Rattle.envy_disk.specs.declared.on_disk.Compaction.{Compaction}
+use Rattle.envy_disk.specs.declared.durable_board.Compaction.{Compaction}
 use Rattle.envy_begun.proofs.Alike.{fails-last, fails-opened, leaves-alike, leaves-on, synced-opened}
 use Rattle.envy_begun.specs.Left.{OpensAlike}
 use Rattle.envy_begun.proofs.found_journal.compacted.Goals as goal

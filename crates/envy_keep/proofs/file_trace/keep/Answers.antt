@@ -1,5 +1,5 @@
 use Rattle.std.proofs.Common.{inl, inr, refl}
-use Rattle.envy_begun.specs.declared.unbegun.OpenFault.TheVariants.{Memory}
+use Rattle.envy_begun.specs.declared.open_fault.OpenFault.TheVariants.{Memory}
 use Rattle.envy_begun.proofs.Caused.{refused-causes, sooner}
 use Rattle.envy_keep.proofs.Serves.{as-it-was, unserved-as, unserved-stopped}
 use Rattle.envy_keep.proofs.file_trace.keep.Goals as goal

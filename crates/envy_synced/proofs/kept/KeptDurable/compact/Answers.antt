@@ -5,7 +5,7 @@ use Rattle.envy_journal.specs.declared.operation.Operation.{Operation}
 use Rattle.envy_journal.specs.Content.{content_of, holds}
 use Rattle.envy_journal.specs.Head.{StandsFor}
 use Rattle.envy_journal.specs.Journal.{journal_state, kept}
-use Rattle.envy_disk.specs.declared.on_disk.Compaction.{Compaction}
+use Rattle.envy_disk.specs.declared.durable_board.Compaction.{Compaction}
 use Rattle.envy_journal.specs.Snapshot.{most_of}
 use Rattle.envy_journal.specs.Snapshot.{limit_of}
 use Rattle.envy_journal.proofs.Condensed.{none_spilled}
