@@ -12,7 +12,7 @@ use std::marker::Model;
 
 mod read_outcome;
 
-pub use read_outcome::Got;
+pub use read_outcome::ReadOutcome;
 
 /// The most bytes that a line has before its newline.
 const LINE: usize = 120;
