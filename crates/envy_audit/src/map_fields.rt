@@ -1,6 +1,6 @@
 ghost use Rattle.std.specs.Prelude.{◌≡◌, ◌≢◌, ◌↔◌, ℕ, ◌-◌, ◌*◌, ◌<◌, ◌≤◌, false, IsTrue, Some, None, IfOk, OnErr, MatchResult, slice_index};
 ghost use Rattle.envy_map.specs.Fields.{chart, sizes_of, place, undo, slot};
-ghost use Rattle.envy_layout.specs.Sound.{slots_of};
+ghost use Rattle.envy_soundness.specs.Sound.{slots_of};
 ghost use Rattle.envy_audit.specs.Finding.{Tells};
 ghost use Rattle.envy_audit.specs.Points.{Decodes, IsJobOf, IsPlaceOf, IsUndoOf, rows_of};
 ghost use Rattle.envy_audit.specs.Finding.{KeepsExtras, PagesDecode, NumbersFit};

@@ -30,10 +30,10 @@ use Rattle.envy_journal.specs.Snapshot.{most_of}
 use Rattle.envy_journal.specs.declared.open_error.OpenError.{OpenError}
 use Rattle.envy_journal.specs.declared.open_error.OpenError.TheVariants.{Failed as OpenFailed}
 use Rattle.envy_synced.specs.Disk.{IsCompact, IsSynced, Reopens}
-use Rattle.envy_layout.specs.Same.{Kept}
-use Rattle.envy_layout.specs.Sound.{Head, IsSound, Sound}
+use Rattle.envy_soundness.specs.Same.{Kept}
+use Rattle.envy_soundness.specs.Sound.{Head, IsSound, Sound}
 use Rattle.envy_meaning.specs.Stands.{Stands}
-use Rattle.envy_layout.specs.Words.{durable}
+use Rattle.envy_soundness.specs.Words.{durable}
 use Rattle.envy_map.specs.Codes.{the_magic}
 use Rattle.envy_map.specs.Fields.{Chart, chart, map_fields, shape_of}
 use Rattle.envy_memory.proofs.AttachLemmas.{formatted-sound, kept-shape}

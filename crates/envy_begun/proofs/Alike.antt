@@ -23,7 +23,7 @@ use Rattle.envy_journal.specs.Head.{StandsFor, head_bytes}
 use Rattle.envy_journal.specs.Log.{Begins}
 use Rattle.envy_journal.specs.Reading.{operations}
 use Rattle.envy_journal.specs.declared.operation.Operation.{Operation}
-use Rattle.envy_layout.specs.Same.{Counted, Kept}
+use Rattle.envy_soundness.specs.Same.{Counted, Kept}
 use Rattle.envy_map.specs.Fields.{Chart, Fields, chart, map_fields}
 use Rattle.envy_policy.specs.declared.setup.Setup.{Setup as OfSetup}
 use Rattle.envy_synced.proofs.Reopened.{same_fields, same_sound, same_words}

@@ -11,9 +11,9 @@ use Rattle.envy_begun.specs.declared.file_contents.FileContents.{FileContents}
 use Rattle.envy_begun.proofs.Opening.{IsGood}
 use Rattle.envy_disk.specs.Disk.{SyncsChart, with_sync}
 use Rattle.envy_synced.specs.Disk.{IsSynced}
-use Rattle.envy_layout.specs.Formatting.{IsEmpty}
+use Rattle.envy_soundness.specs.Formatting.{IsEmpty}
 use Rattle.envy_meaning.specs.Stands.{Holds, Stands}
-use Rattle.envy_layout.specs.Words.{durable}
+use Rattle.envy_soundness.specs.Words.{durable}
 use Rattle.envy_map.specs.Fields.{Chart}
 use Rattle.envy_memory.specs.Formats.{IsFresh, IsStarted}
 use Rattle.envy_memory.specs.Picture.{Picture}

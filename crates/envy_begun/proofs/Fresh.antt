@@ -24,7 +24,7 @@ use Rattle.envy_journal.specs.Head.{IsNewOrUnmade, IsUnmade, StandsFor}
 use Rattle.envy_journal.specs.Reading.{operations}
 use Rattle.envy_journal.specs.declared.operation.Operation.{Operation}
 use Rattle.envy_meaning.specs.Stands.{Holds, Stands}
-use Rattle.envy_layout.specs.Words.{durable}
+use Rattle.envy_soundness.specs.Words.{durable}
 use Rattle.envy_map.specs.Fields.{Chart, Fields, chart, map_fields}
 use Rattle.envy_memory.specs.Formats.{CountsFormat, MayFormat, Refuses}
 use Rattle.envy_memory.specs.declared.faults.FormatFault.{FormatFault}

@@ -6,8 +6,8 @@ use Rattle.envy_base.specs.declared.board.Trouble.{Trouble}
 use Rattle.envy_base.specs.declared.board.Trouble.TheVariants.{Off as TroubleOff, Bad as TroubleBad}
 use Rattle.envy_array.specs.declared.counts.Counts.{Counts as CountsOf}
 use Rattle.envy_meaning.specs.Stands.{Stands}
-use Rattle.envy_layout.specs.Words.{durable}
-use Rattle.envy_flush.specs.declared.did.Did.{Did}
+use Rattle.envy_soundness.specs.Words.{durable}
+use Rattle.envy_engine.specs.declared.did.Did.{Did}
 use Rattle.envy_memory.specs.Below.{IsPast, IsOwned, IsBusy, IsShut, IsShutTo, IsKeptFrom, IsFull, LoadsBelow, StoresBelow, BeginsBelow, PutsBelow, CommitsBelow, AbortsBelow, TicksBelow}
 use Rattle.envy_memory.specs.Calls.{Loads, Looks, Stores, Begins, Puts, Commits, Aborts, Ticks, IsCut, HasFailed, Undisturbed}
 use Rattle.envy_memory.specs.Picture.{Picture, counts_of}

@@ -1,6 +1,6 @@
 // What a transaction sees.
 ghost use Rattle.std.specs.Prelude.{◌≡◌, ◌*◌, ◌<◌, false, IsTrue, MatchBool, Some};
-ghost use Rattle.envy_layout.specs.Sound.{slot_named as slot_of_undo};
+ghost use Rattle.envy_soundness.specs.Sound.{slot_named as slot_of_undo};
 ghost use Rattle.envy_calls.specs.Answers.{LoadsTo, LooksAt};
 ghost use Rattle.envy_calls.specs.Codes.{number_of};
 ghost use Rattle.envy_calls.specs.Views.{DoesView, IsOwn, ViewsTo};

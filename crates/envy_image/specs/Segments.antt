@@ -2,7 +2,7 @@
 use Rattle.std.specs.Prelude.{◌≡◌, ℕ, ◌-◌, ◌==◌, nat_lt, if◌then◌else◌, List, [], ◌∷◌, ◌++◌, map, slice_index, codes, decimal}
 use Rattle.std.specs.List.{range_with_len}
 use Rattle.envy_io.specs.Lines.{spelled}
-use Rattle.envy_layout.specs.Sound.{IsSpare}
+use Rattle.envy_soundness.specs.Sound.{IsSpare}
 use Rattle.envy_map.specs.Fields.{Chart}
 use Rattle.envy_space.specs.Pool.{Pool, PoolAgrees, free_rows, dead_rows}
 use Rattle.envy_base.specs.Shape.{all_positions_of, positions_of}

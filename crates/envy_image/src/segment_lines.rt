@@ -1,7 +1,7 @@
 ghost use Rattle.std.specs.Prelude.{◌≡◌, ◌-◌, ◌+◌, ◌<◌, ℕ, [], ◌∷◌, ◌++◌, IsTrue, IfOk, List};
 ghost use Rattle.envy_io.specs.Lines.{newline};
 ghost use Rattle.envy_io.specs.Streams.{WritesAll};
-ghost use Rattle.envy_layout.specs.Sound.{IsSound};
+ghost use Rattle.envy_soundness.specs.Sound.{IsSound};
 ghost use Rattle.envy_map.specs.Fields.{chart};
 ghost use Rattle.envy_space.specs.Pool.{PoolAgrees};
 ghost use Rattle.envy_image.specs.Segments.{TellsSegments, heading, segment_line, segments_text, text_of};

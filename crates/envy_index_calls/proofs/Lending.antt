@@ -19,9 +19,9 @@ use Rattle.envy_btree.specs.declared.fault.LookFault.TheVariants.{Off as LookOff
 use Rattle.envy_btree.specs.declared.fault.TreeFault.{TreeFault}
 use Rattle.envy_btree.specs.declared.fault.TreeFault.TheVariants.{Off as FaultOff, Full as FaultFull, Bad as FaultBad}
 use Rattle.envy_btree.proofs.Felling.{without-missing}
-use Rattle.envy_layout.proofs.WordLists.{length-durable}
+use Rattle.envy_soundness.proofs.WordLists.{length-durable}
 use Rattle.envy_meaning.specs.Stands.{Holds, Stands, slot_word}
-use Rattle.envy_layout.specs.Words.{durable}
+use Rattle.envy_soundness.specs.Words.{durable}
 use Rattle.envy_map.specs.Fields.{Chart, slot}
 use Rattle.envy_memory.specs.Lawful.{words_long}
 use Rattle.envy_memory.specs.Picture.{Picture}

@@ -6,7 +6,7 @@ use Rattle.envy_array.specs.Words.{IsSheet, Sheet, Spends, Works as SheetWorks, 
 use Rattle.envy_base.specs.Counting.{Rose}
 use Rattle.envy_base.specs.declared.board.Off.{Off as OffNow}
 use Rattle.envy_base.specs.declared.page.TheConstants.{PAGE_WORDS}
-use Rattle.envy_layout.specs.Words.{live, durable}
+use Rattle.envy_soundness.specs.Words.{live, durable}
 use Rattle.envy_memory.specs.Picture.{Picture}
 use Rattle.envy_memory.specs.Sheets.{sheet_of}
 use Rattle.envy_range.specs.Ranges.{inside, outside}

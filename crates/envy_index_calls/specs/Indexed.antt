@@ -10,7 +10,7 @@ use Rattle.envy_base.specs.declared.fields.Slot.TheVariants.{Active}
 use Rattle.envy_base.specs.declared.page.TheConstants.{PAGE_WORDS}
 use Rattle.envy_map.specs.Fields.{Chart, slot as slot_of}
 use Rattle.envy_meaning.specs.Stands.{Stands}
-use Rattle.envy_layout.specs.Words.{durable}
+use Rattle.envy_soundness.specs.Words.{durable}
 use Rattle.envy_memory.specs.Below.{flush_programs, flush_erases}
 use Rattle.envy_memory.specs.Calls.{fresh}
 use Rattle.envy_memory.specs.Picture.{Picture}

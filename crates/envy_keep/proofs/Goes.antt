@@ -8,7 +8,7 @@ use Rattle.envy_base.specs.declared.board.Off.{Off}
 use Rattle.envy_base.specs.declared.shape.Shape.{Shape}
 use Rattle.envy_begun.proofs.Begins.{told-stands}
 use Rattle.envy_disk.specs.Disk.{SyncsChart, with_sync}
-use Rattle.envy_flush.specs.Counts.{Tallies}
+use Rattle.envy_engine.specs.Counts.{Tallies}
 use Rattle.envy_io.specs.declared.source.Failed.{Failed}
 use Rattle.envy_io.specs.Lines.{newline}
 use Rattle.envy_io.specs.Streams.{Drain, WritesAll, with_end}

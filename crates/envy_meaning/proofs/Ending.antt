@@ -14,15 +14,15 @@ use Rattle.envy_array.proofs.Owning.{owner-Some, owner-is, owner-begun, owner-cl
 use Rattle.envy_array.proofs.Undoing.{has, undone-begun, undone-aborted, undone-unowned, undone-committed, put_back-unsaved, has-unowned, length-put_back, length-undone}
 use Rattle.envy_map.specs.Fields.{Chart, with_fields, slot, undo}
 use Rattle.envy_map.specs.Writes.{with_slot}
-use Rattle.envy_layout.specs.Same.{SameWords, SameDurable, Commits}
-use Rattle.envy_layout.specs.Sound.{slot_named}
+use Rattle.envy_soundness.specs.Same.{SameWords, SameDurable, Commits}
+use Rattle.envy_soundness.specs.Sound.{slot_named}
 use Rattle.envy_meaning.specs.Stands.{Holds, Stands, Steps, IsLost, slot_word}
 use Rattle.envy_meaning.specs.Transactions.{Closes, TakesBack}
-use Rattle.envy_layout.specs.Words.{live, durable}
-use Rattle.envy_layout.proofs.Composition.{SameDurable-words}
-use Rattle.envy_layout.proofs.SlotLaw.{names-slot}
+use Rattle.envy_soundness.specs.Words.{live, durable}
+use Rattle.envy_soundness.proofs.Composition.{SameDurable-words}
+use Rattle.envy_soundness.proofs.SlotLaw.{names-slot}
 use Rattle.envy_meaning.proofs.Standing.{IsLost-durable}
-use Rattle.envy_layout.proofs.WordLists.{length-live, length-durable}
+use Rattle.envy_soundness.proofs.WordLists.{length-live, length-durable}
 
 -- ---- the slots of a board and of its array
 

@@ -9,14 +9,14 @@ use Rattle.envy_base.specs.declared.fields.Undo.{Undo}
 use Rattle.envy_base.specs.declared.fields.Undo.TheVariants.{Clear, Blank, Shadow}
 use Rattle.envy_base.specs.declared.shape.Shape.{Shape}
 use Rattle.envy_map.specs.Fields.{Chart, slot, undo}
-use Rattle.envy_layout.specs.Same.{Framed}
-use Rattle.envy_layout.specs.Sound.{Sound, IsSound, Slots, is_active, owned_by, slot_named}
+use Rattle.envy_soundness.specs.Same.{Framed}
+use Rattle.envy_soundness.specs.Sound.{Sound, IsSound, Slots, is_active, owned_by, slot_named}
 use Rattle.envy_meaning.specs.Stands.{Holds}
 use Rattle.envy_meaning.specs.Transactions.{Owns, owner_in}
-use Rattle.envy_layout.proofs.KeptLemmas.{owned_by-active, owned_by-none}
-use Rattle.envy_layout.proofs.RangeSums.{range-same, sum_by-indexed}
+use Rattle.envy_soundness.proofs.KeptLemmas.{owned_by-active, owned_by-none}
+use Rattle.envy_soundness.proofs.RangeSums.{range-same, sum_by-indexed}
 use Rattle.envy_meaning.proofs.Standing.{free-holds, owned-holds}
-use Rattle.envy_layout.proofs.WordLists.{length-live}
+use Rattle.envy_soundness.proofs.WordLists.{length-live}
 
 -- whether a transaction owns a page is told by the slot that its undo names
 abbrev named_active : List (Option Slot) → Option ℕ → Bool

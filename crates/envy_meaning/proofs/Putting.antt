@@ -10,11 +10,11 @@ use Rattle.envy_array.proofs.Keeping.{IsArray-put}
 use Rattle.envy_array.proofs.Owning.{owner-put_here, owner-put_there, owner-None, owner-Some, slot-within}
 use Rattle.envy_array.proofs.Undoing.{undone-put, has-unowned, has-elsewhere}
 use Rattle.envy_map.specs.Fields.{Chart, undo}
-use Rattle.envy_layout.specs.Same.{Framed, Same, Stays, SameWords, SameDurable, Shadowed}
-use Rattle.envy_layout.specs.Sound.{slot_named}
+use Rattle.envy_soundness.specs.Same.{Framed, Same, Stays, SameWords, SameDurable, Shadowed}
+use Rattle.envy_soundness.specs.Sound.{slot_named}
 use Rattle.envy_meaning.specs.Stands.{Holds, Stands, Steps, IsLost, slot_word}
 use Rattle.envy_meaning.specs.Transactions.{Owns, PutDone}
-use Rattle.envy_layout.proofs.Composition.{Counted-trans, Counted-more, SameWords-trans, SameWords-same, Wears-trans}
+use Rattle.envy_soundness.proofs.Composition.{Counted-trans, Counted-more, SameWords-trans, SameWords-same, Wears-trans}
 use Rattle.envy_meaning.proofs.Standing.{IsLost-durable}
 
 -- after steps in which no page changed its owner

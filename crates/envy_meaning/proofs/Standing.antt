@@ -9,13 +9,13 @@ use Rattle.envy_base.specs.declared.fields.Slot.TheVariants.{Active}
 use Rattle.envy_array.proofs.Keeping.{IsArray-stored}
 use Rattle.envy_array.proofs.Undoing.{undone-stored}
 use Rattle.envy_map.specs.Fields.{Chart, undo}
-use Rattle.envy_layout.specs.Sound.{owned_by}
-use Rattle.envy_layout.specs.Words.{durable}
-use Rattle.envy_layout.specs.Same.{Stays, Same, SameWords, SameDurable, Stored, Interrupted, Dropped}
+use Rattle.envy_soundness.specs.Sound.{owned_by}
+use Rattle.envy_soundness.specs.Words.{durable}
+use Rattle.envy_soundness.specs.Same.{Stays, Same, SameWords, SameDurable, Stored, Interrupted, Dropped}
 use Rattle.envy_meaning.specs.Stands.{Holds, Stands, IsLost, slot_word}
-use Rattle.envy_layout.proofs.Composition.{SameDurable-same, SameDurable-words, SameDurable-dropped}
-use Rattle.envy_layout.proofs.KeptLemmas.{owned_by-none, owned_by-active}
-use Rattle.envy_layout.proofs.WordLists.{length-live}
+use Rattle.envy_soundness.proofs.Composition.{SameDurable-same, SameDurable-words, SameDurable-dropped}
+use Rattle.envy_soundness.proofs.KeptLemmas.{owned_by-none, owned_by-active}
+use Rattle.envy_soundness.proofs.WordLists.{length-live}
 
 pub Holds-stays : (k j : ℕ) (c new : Chart) (m : Array) → Holds c m → Stays k j c new → Holds new m
 Holds-stays k j c new m h s =

@@ -7,8 +7,8 @@ use Rattle.envy_array.specs.Array.{Array, Saved, IsArray, slot_of, owner, undone
 use Rattle.envy_array.specs.Step.{Command, Answer, Step, Accepts, Lost}
 use Rattle.envy_map.specs.Codes.{the_magic}
 use Rattle.envy_map.specs.Fields.{Chart, slot, undo}
-use Rattle.envy_layout.specs.Sound.{IsSound, slot_named}
-use Rattle.envy_layout.specs.Words.{live, durable}
+use Rattle.envy_soundness.specs.Sound.{IsSound, slot_named}
+use Rattle.envy_soundness.specs.Words.{live, durable}
 
 -- the slot word of a slot of the array
 abbrev pub slot_word : Option Saved → Slot

@@ -5,9 +5,9 @@ use Rattle.envy_base.specs.declared.fields.Slot.TheVariants.{Vacant}
 use Rattle.envy_base.specs.declared.fields.Undo.{Undo}
 use Rattle.envy_base.specs.declared.fields.Undo.TheVariants.{Clear}
 use Rattle.envy_map.specs.Fields.{Chart, undo}
-use Rattle.envy_layout.specs.Same.{Counted, Wears}
-use Rattle.envy_layout.specs.Sound.{IsSound, owned_by, slot_named}
-use Rattle.envy_layout.specs.Words.{live, durable}
+use Rattle.envy_soundness.specs.Same.{Counted, Wears}
+use Rattle.envy_soundness.specs.Sound.{IsSound, owned_by, slot_named}
+use Rattle.envy_soundness.specs.Words.{live, durable}
 use Rattle.envy_base.specs.declared.page.TheConstants.{PAGE_WORDS}
 
 -- the open transaction that owns a page with this undo

@@ -4,8 +4,8 @@ ghost use Rattle.envy_array.specs.Step.{Begin, Put, Commit, Abort, Started, Done
 ghost use Rattle.envy_base.specs.declared.fields.Slot.TheVariants.{Active, Vacant};
 ghost use Rattle.envy_map.specs.Fields.{Chart, with_fields, slot, undo};
 ghost use Rattle.envy_map.specs.Writes.{with_slot};
-ghost use Rattle.envy_layout.specs.Same.{SameWords, SameDurable, Shadowed, Commits};
-ghost use Rattle.envy_layout.specs.Sound.{owned_by};
+ghost use Rattle.envy_soundness.specs.Same.{SameWords, SameDurable, Shadowed, Commits};
+ghost use Rattle.envy_soundness.specs.Sound.{owned_by};
 ghost use Rattle.envy_meaning.specs.Stands.{Stands, Steps, IsLost};
 ghost use Rattle.envy_meaning.specs.Transactions.{owner_in, PutDone, Closes, TakesBack};
 

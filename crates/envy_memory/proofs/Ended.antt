@@ -17,11 +17,11 @@ use Rattle.envy_array.proofs.Owning.{owner-nobody}
 use Rattle.envy_array.proofs.Undoing.{undo_all-closed}
 use Rattle.envy_map.specs.Codes.{the_magic}
 use Rattle.envy_map.specs.Fields.{Chart, slot, undo}
-use Rattle.envy_layout.specs.Sound.{Sound, IsSound, Slots, slot_named}
+use Rattle.envy_soundness.specs.Sound.{Sound, IsSound, Slots, slot_named}
 use Rattle.envy_meaning.proofs.Owners.{owner_in-holds}
-use Rattle.envy_layout.proofs.WordLists.{length-durable}
+use Rattle.envy_soundness.proofs.WordLists.{length-durable}
 use Rattle.envy_meaning.specs.Stands.{Holds, Stands, Steps, IsLost, slot_word}
-use Rattle.envy_layout.specs.Words.{live, durable}
+use Rattle.envy_soundness.specs.Words.{live, durable}
 use Rattle.envy_txn.specs.Owners.{Ownership, AreOwned, owner_of, owner_in}
 use Rattle.envy_txn.specs.declared.pair.Pair.{Pair}
 use Rattle.envy_memory.proofs.AttachLemmas.{IsArray-fresh}

@@ -9,11 +9,11 @@ use Rattle.envy_base.specs.Shape.{version_of}
 use Rattle.envy_base.specs.State.{State}
 use Rattle.envy_base.specs.declared.shape.Shape.{Shape}
 use Rattle.envy_map.specs.Fields.{Chart, chart}
-use Rattle.envy_layout.specs.Formatting.{IsEmpty, IsBetween as OfLayout}
-use Rattle.envy_layout.specs.Sound.{slot_named}
+use Rattle.envy_soundness.specs.Formatting.{IsEmpty, IsBetween as OfLayout}
+use Rattle.envy_soundness.specs.Sound.{slot_named}
 use Rattle.envy_meaning.specs.Stands.{Holds, slot_word}
 use Rattle.envy_memory.proofs.Slots.{slot-low}
-use Rattle.envy_flush.specs.Restarts.{IsSettled}
+use Rattle.envy_engine.specs.Restarts.{IsSettled}
 use Rattle.envy_memory.specs.Formats.{IsBetween}
 use Rattle.envy_memory.proofs.AttachLemmas.{closed}
 

@@ -5,9 +5,9 @@ use Rattle.envy_array.specs.Array.{Array}
 use Rattle.envy_base.specs.declared.fields.Place.{Place}
 use Rattle.envy_map.specs.Fields.{Chart, place}
 use Rattle.envy_meaning.specs.Stands.{Holds, Stands}
-use Rattle.envy_layout.specs.Words.{word_at, live, live_word}
+use Rattle.envy_soundness.specs.Words.{word_at, live, live_word}
 use Rattle.envy_meaning.proofs.Standing.{length-stands}
-use Rattle.envy_layout.proofs.WordLists.{get_or-words}
+use Rattle.envy_soundness.proofs.WordLists.{get_or-words}
 use Rattle.envy_table.specs.Entries.{Translations}
 use Rattle.envy_table.specs.Hits.{Accesses}
 use Rattle.envy_memory.specs.Picture.{Picture}

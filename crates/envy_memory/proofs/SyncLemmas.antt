@@ -5,7 +5,7 @@ use Rattle.std.proofs.lemmas.Bool.{false≢true}
 use Rattle.envy_base.specs.declared.board.Off.{Off}
 use Rattle.envy_base.specs.State.{State, SyncNote}
 use Rattle.envy_disk.specs.Disk.{Syncs, SyncsChart, with_sync}
-use Rattle.envy_flush.specs.declared.parts.Parts.{Parts}
+use Rattle.envy_engine.specs.declared.parts.Parts.{Parts}
 use Rattle.envy_map.specs.Fields.{Chart, chart, failed}
 use Rattle.envy_memory.specs.Picture.{IsMemory}
 use Rattle.envy_txn.specs.Owners.{Ownership}

@@ -13,9 +13,9 @@ use Rattle.envy_array.proofs.Owning.{owner-Some}
 use Rattle.envy_array.proofs.Undoing.{undo_all-closed, undone-begun, undone-put}
 use Rattle.envy_array.proofs.Undoing.{has as has-address}
 use Rattle.envy_map.specs.Fields.{Chart, slot}
-use Rattle.envy_layout.specs.Same.{Counted}
+use Rattle.envy_soundness.specs.Same.{Counted}
 use Rattle.envy_meaning.specs.Stands.{Holds, Stands, Steps, IsLost, slot_word}
-use Rattle.envy_layout.specs.Words.{durable}
+use Rattle.envy_soundness.specs.Words.{durable}
 use Rattle.envy_txn.specs.Owners.{Ownership, owner_of}
 use Rattle.envy_txn.specs.declared.pair.Pair.{Pair}
 use Rattle.envy_memory.proofs.Facts.{none-open, on-from}

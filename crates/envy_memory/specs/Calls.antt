@@ -7,9 +7,9 @@ use Rattle.envy_base.specs.declared.faults.PlannedFault.{PlannedFault}
 use Rattle.envy_base.specs.declared.board.Trouble.{Trouble}
 use Rattle.envy_base.specs.declared.board.Trouble.TheVariants.{Off as TroubleOff, Bad as TroubleBad}
 use Rattle.envy_map.specs.Fields.{Chart}
-use Rattle.envy_layout.specs.Same.{Counted, Wears}
+use Rattle.envy_soundness.specs.Same.{Counted, Wears}
 use Rattle.envy_meaning.specs.Stands.{Steps, IsLost, Fails}
-use Rattle.envy_flush.specs.declared.did.Did.{Did}
+use Rattle.envy_engine.specs.declared.did.Did.{Did}
 use Rattle.envy_memory.specs.declared.faults.LoadFault.{LoadFault}
 use Rattle.envy_memory.specs.declared.faults.LoadFault.TheVariants.{Off as LoadOff, Range as LoadRange}
 use Rattle.envy_memory.specs.declared.faults.StoreFault.{StoreFault}

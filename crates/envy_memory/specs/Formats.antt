@@ -5,8 +5,8 @@ use Rattle.envy_base.specs.Counting.{up}
 use Rattle.envy_base.specs.State.{State}
 use Rattle.envy_array.specs.declared.counts.Counts.{Counts}
 use Rattle.envy_map.specs.Fields.{Chart, chart}
-use Rattle.envy_layout.specs.Formatting.{IsEmpty, Spoils, aside}
-use Rattle.envy_layout.specs.Same.{Counted}
+use Rattle.envy_soundness.specs.Formatting.{IsEmpty, Spoils, aside}
+use Rattle.envy_soundness.specs.Same.{Counted}
 use Rattle.envy_meaning.specs.Stands.{Holds, Stands}
 use Rattle.envy_frames.specs.Agreement.{held_by_default}
 use Rattle.envy_policy.specs.History.{started}

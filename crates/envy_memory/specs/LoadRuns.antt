@@ -4,7 +4,7 @@ use Rattle.envy_array.specs.Array.{Array}
 use Rattle.envy_array.specs.Step.{Load, Word, Range}
 use Rattle.envy_map.specs.Fields.{Chart}
 use Rattle.envy_meaning.specs.Stands.{Steps}
-use Rattle.envy_layout.specs.Words.{live}
+use Rattle.envy_soundness.specs.Words.{live}
 use Rattle.envy_table.specs.Entries.{Translations}
 use Rattle.envy_table.specs.Hits.{Accesses}
 use Rattle.envy_memory.specs.Runs.{last_of}

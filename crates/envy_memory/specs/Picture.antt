@@ -6,9 +6,9 @@ use Rattle.envy_base.specs.declared.fields.Slot.TheVariants.{Committed}
 use Rattle.envy_base.specs.State.{State}
 use Rattle.envy_map.specs.Codes.{the_magic}
 use Rattle.envy_map.specs.Fields.{Chart, slot}
-use Rattle.envy_layout.specs.Sound.{IsSound}
-use Rattle.envy_flush.specs.Agreement.{Fits, PartsAgree}
-use Rattle.envy_flush.specs.declared.parts.Parts.{Parts}
+use Rattle.envy_soundness.specs.Sound.{IsSound}
+use Rattle.envy_engine.specs.Agreement.{Fits, PartsAgree}
+use Rattle.envy_engine.specs.declared.parts.Parts.{Parts}
 use Rattle.envy_txn.specs.Owners.{Ownership, AreOwned}
 
 -- The board read by its map; the held frames, the pool, the cache's entries, heats, turns and lives, the moves and the

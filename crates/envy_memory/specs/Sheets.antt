@@ -7,7 +7,7 @@ use Rattle.envy_base.specs.declared.faults.PlannedFault.TheVariants.{Cut, Bad}
 use Rattle.envy_base.specs.declared.shape.Shape.{Shape}
 use Rattle.envy_map.specs.Fields.{Chart}
 use Rattle.envy_meaning.specs.Stands.{Stands}
-use Rattle.envy_layout.specs.Words.{live, durable}
+use Rattle.envy_soundness.specs.Words.{live, durable}
 use Rattle.envy_memory.specs.Below.{flush_programs, flush_erases}
 use Rattle.envy_memory.specs.Picture.{Picture}
 use Rattle.envy_txn.specs.declared.pair.Pair.{Pair}

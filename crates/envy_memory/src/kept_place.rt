@@ -1,9 +1,9 @@
 ghost use Rattle.std.specs.Prelude.{◌≡◌, ◌<◌, false, Some, MatchResult, OnErr, IfOk};
 ghost use Rattle.envy_base.specs.Shape.{version_of};
 ghost use Rattle.envy_map.specs.Fields.{chart};
-ghost use Rattle.envy_layout.specs.Sound.{IsSound};
-ghost use Rattle.envy_layout.specs.Words.{kept};
-ghost use Rattle.envy_flush.specs.Pages.{InRange};
+ghost use Rattle.envy_soundness.specs.Sound.{IsSound};
+ghost use Rattle.envy_soundness.specs.Words.{kept};
+ghost use Rattle.envy_engine.specs.Pages.{InRange};
 ghost use Rattle.envy_memory.specs.Opened.{IsFirstOpen};
 
 use envy_base::{Board, Off, Place, Slot, Undo};

@@ -24,7 +24,7 @@ mod sync;
 mod tick;
 mod transaction;
 
-pub use envy_flush::Did;
+pub use envy_engine::Did;
 pub use faults::{
     AttachFault, BeginFault, EndFault, FormatFault, LoadFault, PutFault, ReviveFault, StoreFault,
 };

@@ -2,8 +2,8 @@ ghost use Rattle.std.specs.Prelude.{◌≡◌, ◌↔◌, ◌+◌, ◌*◌, ◌/
 ghost use Rattle.envy_array.specs.Array.{Array};
 ghost use Rattle.envy_map.specs.Fields.{chart};
 ghost use Rattle.envy_meaning.specs.Stands.{Stands};
-ghost use Rattle.envy_layout.specs.Words.{word_at};
-ghost use Rattle.envy_flush.specs.Pages.{InRange};
+ghost use Rattle.envy_soundness.specs.Words.{word_at};
+ghost use Rattle.envy_engine.specs.Pages.{InRange};
 ghost use Rattle.envy_table.specs.Hits.{Accesses};
 ghost use Rattle.envy_memory.specs.LoadRuns.{AreLive, Crosses, FillsPage, LoadsRun};
 ghost use Rattle.envy_memory.specs.Runs.{RunsPast, pages_met};
@@ -11,7 +11,7 @@ ghost use Rattle.envy_memory.specs.Runs.{RunsPast, pages_met};
 use crate::faults::LoadFault;
 use crate::memory::Memory;
 use envy_base::{Board, Off, PAGE_LENGTH, PAGE_WORDS, Place};
-use envy_flush::word;
+use envy_engine::word;
 
 // The words of a page that is there, from its word `first` on.
 #[inline(always)]

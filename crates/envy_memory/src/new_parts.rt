@@ -1,9 +1,9 @@
 ghost use Rattle.std.specs.Prelude.{◌≡◌, [], IfOk};
 ghost use Rattle.envy_policy.specs.Setup.{IsSetup};
-ghost use Rattle.envy_flush.specs.Starting.{started_parts};
+ghost use Rattle.envy_engine.specs.Starting.{started_parts};
 
 use envy_base::NoMemory;
-use envy_flush::Parts;
+use envy_engine::Parts;
 use envy_policy::Setup;
 use envy_txn::Owned;
 use std::alloc::Global;

@@ -2,9 +2,9 @@ ghost use Rattle.std.specs.Prelude.{◌≡◌, ◌↔◌, ◌⊎◌, ◌+◌, �
 ghost use Rattle.envy_array.specs.Array.{Array};
 ghost use Rattle.envy_base.specs.Shape.{IsShape, version_of};
 ghost use Rattle.envy_base.specs.declared.page.TheConstants.{PAGE_WORDS};
-ghost use Rattle.envy_layout.specs.Same.{Kept};
+ghost use Rattle.envy_soundness.specs.Same.{Kept};
 ghost use Rattle.envy_meaning.specs.Stands.{Stands};
-ghost use Rattle.envy_layout.specs.Words.{durable};
+ghost use Rattle.envy_soundness.specs.Words.{durable};
 ghost use Rattle.envy_map.specs.Codes.{the_magic};
 ghost use Rattle.envy_memory.specs.Calls.{fresh, lit, planned, pulled};
 ghost use Rattle.envy_memory.specs.Faults.{IsNoRefusal, trouble_of};

@@ -7,7 +7,7 @@ ghost use Rattle.envy_memory.specs.Calls.{Puts, IsCut, HasFailed, Undisturbed};
 use crate::faults::PutFault;
 use crate::memory::Memory;
 use envy_base::{Board, PAGE_WORDS};
-use envy_flush::{is_open, put_first, store_word};
+use envy_engine::{is_open, put_first, store_word};
 
 impl<B: Board> Memory<B> {
     /// Makes the word at an address this within the transaction of slot `t`, which owns the page from then on.

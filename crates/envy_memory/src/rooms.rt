@@ -4,7 +4,7 @@ ghost use Rattle.envy_memory.specs.Rooms.{LacksRoom, pages_within, unowned};
 
 use crate::memory::Memory;
 use envy_base::{Board, PAGE_WORDS};
-use envy_flush::is_open;
+use envy_engine::is_open;
 
 impl<B: Board> Memory<B> {
     // How many pages more transactions may own.

@@ -7,7 +7,7 @@ ghost use Rattle.envy_memory.specs.Calls.{Stores, IsCut, HasFailed, Undisturbed}
 use crate::faults::StoreFault;
 use crate::memory::Memory;
 use envy_base::{Board, PAGE_WORDS};
-use envy_flush::store_word;
+use envy_engine::store_word;
 
 impl<B: Board> Memory<B> {
     /// Makes the word at an address this. It is never refused for want of room.

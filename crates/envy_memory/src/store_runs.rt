@@ -7,7 +7,7 @@ use crate::faults::StoreFault;
 use crate::memory::Memory;
 use crate::put_runs::is_one_more;
 use envy_base::{Board, PAGE_WORDS};
-use envy_layout::change_frame_word;
+use envy_soundness::change_frame_word;
 
 impl<B: Board> Memory<B> {
     /// Makes the words at an address and behind it these, outside any transaction, one after another, and answers how

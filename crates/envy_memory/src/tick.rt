@@ -6,7 +6,7 @@ ghost use Rattle.envy_memory.specs.Calls.{Ticks, IsCut, HasFailed, Undisturbed};
 
 use crate::memory::Memory;
 use envy_base::{Board, Trouble};
-use envy_flush::{Did, tick_ruled};
+use envy_engine::{Did, tick_ruled};
 
 impl<B: Board> Memory<B> {
     /// One background step: that of the first rule that applies. The array doesn't change.

@@ -9,7 +9,7 @@ use crate::faults::{BeginFault, EndFault};
 use crate::kept_place::lowest_open;
 use crate::memory::Memory;
 use envy_base::{Board, Off};
-use envy_flush::{abort_pages, commit_pages, first_vacant, is_open, open_slot};
+use envy_engine::{abort_pages, commit_pages, first_vacant, is_open, open_slot};
 
 impl<B: Board> Memory<B> {
     /// The lowest slot that is open, if one is. No slot above it is read, so it is found at once if it is the first.

@@ -9,8 +9,8 @@ use Rattle.envy_array.proofs.Owning.{owner-nobody}
 use Rattle.envy_array.proofs.Undoing.{undo_all-closed}
 use Rattle.envy_map.specs.Fields.{Chart}
 use Rattle.envy_meaning.specs.Stands.{Stands, Holds, Steps, Fails}
-use Rattle.envy_layout.specs.Words.{live, durable}
-use Rattle.envy_layout.proofs.WordLists.{length-live}
+use Rattle.envy_soundness.specs.Words.{live, durable}
+use Rattle.envy_soundness.proofs.WordLists.{length-live}
 use Rattle.envy_memory.proofs.Facts.{none-open}
 use Rattle.envy_memory.specs.Calls.{fresh}
 use Rattle.envy_mirror.specs.Pair.{IsClosed}

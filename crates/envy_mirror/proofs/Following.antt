@@ -7,8 +7,8 @@ use Rattle.envy_base.specs.declared.shape.Shape.{Shape}
 use Rattle.envy_array.proofs.Total.{option_cases}
 use Rattle.envy_map.specs.Fields.{Chart}
 use Rattle.envy_meaning.specs.Stands.{Stands, Holds, slot_word}
-use Rattle.envy_layout.specs.Words.{live, durable}
-use Rattle.envy_layout.proofs.WordLists.{length-live}
+use Rattle.envy_soundness.specs.Words.{live, durable}
+use Rattle.envy_soundness.proofs.WordLists.{length-live}
 use Rattle.envy_meaning.proofs.Standing.{length-stands}
 use Rattle.envy_memory.specs.Calls.{fresh}
 use Rattle.envy_mirror.specs.Catching.{Helps, NoneOpen, NoneStale, IsLowestStale, Copies}

@@ -4,7 +4,7 @@ use Rattle.envy_array.specs.Array.{Array}
 use Rattle.envy_array.specs.Step.{Command, Tick}
 use Rattle.envy_map.specs.Fields.{Chart}
 use Rattle.envy_meaning.specs.Stands.{Stands, Steps, IsLost, Fails}
-use Rattle.envy_flush.specs.Counts.{Tallies}
+use Rattle.envy_engine.specs.Counts.{Tallies}
 use Rattle.envy_memory.specs.Calls.{IsCut, HasFailed, pulled}
 use Rattle.envy_memory.specs.Picture.{Picture}
 use Rattle.envy_mirror.specs.Mirroring.{Mirrors, Gives}

@@ -2,7 +2,7 @@ ghost use Rattle.std.specs.Prelude.{◌≡◌, ◌↔◌, ◌<◌, ◌/◌, fals
 ghost use Rattle.envy_array.specs.Array.{Array};
 ghost use Rattle.envy_array.specs.Step.{Load, Look};
 ghost use Rattle.envy_meaning.specs.Stands.{Stands};
-ghost use Rattle.envy_layout.specs.Words.{durable};
+ghost use Rattle.envy_soundness.specs.Words.{durable};
 ghost use Rattle.envy_memory.specs.Below.{IsPast};
 ghost use Rattle.envy_memory.specs.Calls.{Looks};
 ghost use Rattle.envy_mirror.specs.Pair.{is_good, side_at};

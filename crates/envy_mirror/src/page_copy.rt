@@ -1,5 +1,5 @@
 ghost use Rattle.std.specs.Prelude.{◌≡◌, ◌≢◌, ◌↔◌, ◌/◌, ◌*◌, ◌<◌, ◌≤◌, ℕ, false, IsTrue, OnOk, IsErrOf, Err, slice_index, slice_set};
-ghost use Rattle.envy_layout.specs.Words.{live, durable};
+ghost use Rattle.envy_soundness.specs.Words.{live, durable};
 ghost use Rattle.envy_memory.specs.Calls.{HasFailed, IsCut};
 ghost use Rattle.envy_mirror.specs.Asking.{Reckons};
 ghost use Rattle.envy_mirror.specs.Catching.{Copies};

@@ -8,7 +8,7 @@ use Rattle.envy_array.specs.Step.{Command, Answer, Step}
 use Rattle.envy_array.specs.Step.{Load as DoLoad, Look as DoLook, Store as DoStore, Begin as DoBegin, Put as DoPut, Commit as DoCommit, Abort as DoAbort, Tick as DoTick}
 use Rattle.envy_array.specs.Step.{Word as IsWord, Range as IsRange}
 use Rattle.envy_meaning.specs.Stands.{Stands}
-use Rattle.envy_layout.specs.Words.{live}
+use Rattle.envy_soundness.specs.Words.{live}
 use Rattle.envy_map.specs.Fields.{Chart}
 use Rattle.envy_memory.specs.Calls.{fresh, planned}
 use Rattle.envy_memory.specs.Picture.{counts_of}

@@ -3,8 +3,8 @@ use Rattle.std.specs.Prelude.{◌≡◌, ◌⊎◌, ℕ, ◌+◌, ◌<◌, Bool,
 use Rattle.std.proofs.lemmas.Bool.{lt-ltb}
 use Rattle.envy_array.specs.Array.{Array}
 use Rattle.envy_io.specs.Streams.{Drain}
-use Rattle.envy_layout.specs.Sound.{IsSound}
-use Rattle.envy_layout.specs.Words.{durable}
+use Rattle.envy_soundness.specs.Sound.{IsSound}
+use Rattle.envy_soundness.specs.Words.{durable}
 use Rattle.envy_memory.specs.Picture.{counts_of}
 use Rattle.envy_mirror.specs.Mirroring.{Mirrors}
 use Rattle.envy_mirror.specs.Pair.{Side as PairSide, Pair, side_at}

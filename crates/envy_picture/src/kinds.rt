@@ -1,12 +1,12 @@
 ghost use Rattle.std.specs.Prelude.{◌≡◌, ◌*◌, ◌<◌, IfOk};
-ghost use Rattle.envy_layout.specs.Power.{power_of};
-ghost use Rattle.envy_layout.specs.Sound.{IsSound};
+ghost use Rattle.envy_soundness.specs.Power.{power_of};
+ghost use Rattle.envy_soundness.specs.Sound.{IsSound};
 ghost use Rattle.envy_map.specs.Fields.{chart};
 ghost use Rattle.envy_picture.specs.Kinds.{IsKind, kind_of};
 
 use envy_base::{Board, Off};
-use envy_layout::{Kept, row_owner};
 use envy_map::fill;
+use envy_soundness::{Kept, row_owner};
 
 /// What a row of flash is.
 #[derive(Clone, Copy)]

@@ -8,8 +8,8 @@ use Rattle.envy_base.specs.declared.fields.Job.TheVariants.{Copy}
 use Rattle.envy_base.specs.declared.shape.Shape.{Shape}
 use Rattle.envy_base.specs.Counting.{Tally}
 use Rattle.envy_map.specs.Fields.{Fields, Chart}
-use Rattle.envy_layout.specs.Same.{Same, Stays, Counted}
-use Rattle.envy_layout.specs.Sound.{IsKept}
+use Rattle.envy_soundness.specs.Same.{Same, Stays, Counted}
+use Rattle.envy_soundness.specs.Sound.{IsKept}
 use Rattle.envy_reloc.specs.Phases.{CountsBegun, CountsApart, HasNoMove, IsFirstMove, NextMove}
 use Rattle.envy_reloc.specs.Plan.{Plan}
 use Rattle.envy_reloc.specs.Rows.{IsLowestRoom}

@@ -4,10 +4,10 @@ ghost use Rattle.envy_base.specs.State.{row_of, IsOnes};
 ghost use Rattle.envy_base.specs.declared.fields.Job.TheVariants.{Idle, Switch, Erase};
 ghost use Rattle.envy_map.specs.Fields.{chart, with_fields};
 ghost use Rattle.envy_map.specs.Writes.{with_fill, with_job, with_position, with_wear};
-ghost use Rattle.envy_layout.specs.Jobs.{IsClear};
-ghost use Rattle.envy_layout.specs.Power.{power_of, power_after};
-ghost use Rattle.envy_layout.specs.Same.{Same};
-ghost use Rattle.envy_layout.specs.Sound.{IsSound, IsPlaced, IsSpare};
+ghost use Rattle.envy_soundness.specs.Jobs.{IsClear};
+ghost use Rattle.envy_soundness.specs.Power.{power_of, power_after};
+ghost use Rattle.envy_soundness.specs.Same.{Same};
+ghost use Rattle.envy_soundness.specs.Sound.{IsSound, IsPlaced, IsSpare};
 ghost use Rattle.envy_space.specs.Pool.{PoolAgrees};
 ghost use Rattle.envy_space.specs.Retiring.{LowestFresh};
 ghost use Rattle.envy_reloc.specs.Keeping.{PoolFollows};
@@ -15,7 +15,7 @@ ghost use Rattle.envy_reloc.specs.Phases.{Empties, Retires};
 ghost use Rattle.envy_base.specs.Shape.{positions_of};
 
 use envy_base::{Board, Off, Trouble};
-use envy_layout::{begin_erase, empty_spare, end_job, erase_counted};
+use envy_soundness::{begin_erase, empty_spare, end_job, erase_counted};
 use envy_space::Space;
 
 /// Puts the spare in place of the segment that was switched, which is to be erased then.

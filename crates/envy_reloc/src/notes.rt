@@ -1,12 +1,12 @@
 ghost use Rattle.std.specs.Prelude.{◌≡◌, ◌*◌, ◌/◌, ◌<◌, ℕ, slice_index};
 ghost use Rattle.envy_map.specs.Fields.{Fields};
-ghost use Rattle.envy_layout.specs.Naming.{with_named};
+ghost use Rattle.envy_soundness.specs.Naming.{with_named};
 ghost use Rattle.envy_space.specs.Pool.{noted_kept, noted_dead};
 ghost use Rattle.envy_table.specs.Agreement.{AreCurrent};
 ghost use Rattle.envy_table.specs.Hits.{Rests};
 
 use envy_base::Place;
-use envy_layout::Kept;
+use envy_soundness::Kept;
 use envy_space::Space;
 use envy_table::Cache;
 

@@ -3,15 +3,15 @@ ghost use Rattle.envy_base.specs.Counting.{up, Tally};
 ghost use Rattle.envy_base.specs.State.{row_of};
 ghost use Rattle.envy_base.specs.declared.fields.Job.TheVariants.{Copy};
 ghost use Rattle.envy_map.specs.Fields.{chart};
-ghost use Rattle.envy_layout.specs.Power.{power_of, power_after};
-ghost use Rattle.envy_layout.specs.Same.{Same};
-ghost use Rattle.envy_layout.specs.Sound.{IsSound};
+ghost use Rattle.envy_soundness.specs.Power.{power_of, power_after};
+ghost use Rattle.envy_soundness.specs.Same.{Same};
+ghost use Rattle.envy_soundness.specs.Sound.{IsSound};
 ghost use Rattle.envy_space.specs.Pool.{PoolAgrees};
 ghost use Rattle.envy_reloc.specs.Keeping.{ClaimsCopy, MayCopy, PoolFollows};
 ghost use Rattle.envy_reloc.specs.Rows.{NextKept};
 
 use envy_base::{Board, Off, PAGE_LENGTH, PAGE_WORDS, Page, Trouble};
-use envy_layout::{note_origin, program_counted, row_owner};
+use envy_soundness::{note_origin, program_counted, row_owner};
 use envy_space::Space;
 
 /// A kept row that the spare has no copy of, and the page that keeps it.
@@ -63,7 +63,7 @@ pub(crate) fn read_row<B: Board>(board: &B, row: u32, words: &mut Page) -> Resul
     Ok(())
 }
 
-#[tactic(auto, using(envy_layout::proofs::Sames::same_then, envy_layout::proofs::Sames::same_within, envy_layout::proofs::Sames::tally_still, envy_layout::proofs::Sames::tally_then))]
+#[tactic(auto, using(envy_soundness::proofs::Sames::same_then, envy_soundness::proofs::Sames::same_within, envy_soundness::proofs::Sames::tally_still, envy_soundness::proofs::Sames::tally_then))]
 /// Copies a row of the segment that is being copied to the spare.
 pub(crate) fn copy_row<B: Board>(
     board: &mut B,

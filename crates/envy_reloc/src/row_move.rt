@@ -4,11 +4,11 @@ ghost use Rattle.envy_base.specs.Counting.{up, Tally};
 ghost use Rattle.envy_base.specs.State.{row_of};
 ghost use Rattle.envy_base.specs.declared.fields.Job.TheVariants.{Copy};
 ghost use Rattle.envy_map.specs.Fields.{chart, with_fields};
-ghost use Rattle.envy_layout.specs.Same.{Same};
-ghost use Rattle.envy_layout.specs.May.{MayName};
-ghost use Rattle.envy_layout.specs.Naming.{IsNamed, with_named};
-ghost use Rattle.envy_layout.specs.Power.{power_of, power_after};
-ghost use Rattle.envy_layout.specs.Sound.{IsSound, Names};
+ghost use Rattle.envy_soundness.specs.Same.{Same};
+ghost use Rattle.envy_soundness.specs.May.{MayName};
+ghost use Rattle.envy_soundness.specs.Naming.{IsNamed, with_named};
+ghost use Rattle.envy_soundness.specs.Power.{power_of, power_after};
+ghost use Rattle.envy_soundness.specs.Sound.{IsSound, Names};
 ghost use Rattle.envy_space.specs.Pool.{PoolAgrees};
 ghost use Rattle.envy_reloc.specs.Keeping.{ClaimsTarget, CopiesTo, IsKeptIn, IsMove, IsTarget, PartsAgree, PartsFollow, PoolFollows, WastesRow};
 ghost use Rattle.envy_reloc.specs.Phases.{MovesRow, NextMove};
@@ -19,7 +19,7 @@ use crate::Reloc;
 use crate::notes::follow;
 use crate::row_copy::read_row;
 use envy_base::{Board, Off, PAGE_LENGTH, Place, Trouble};
-use envy_layout::{Kept, move_place, move_undo, program_counted, row_owner};
+use envy_soundness::{Kept, move_place, move_undo, program_counted, row_owner};
 use envy_space::Space;
 use envy_table::Cache;
 
@@ -96,7 +96,7 @@ impl Reloc {
     }
 }
 
-#[tactic(auto, using(envy_layout::proofs::Sames::same_then, envy_layout::proofs::Sames::same_within, envy_layout::proofs::Sames::tally_still, envy_layout::proofs::Sames::tally_then))]
+#[tactic(auto, using(envy_soundness::proofs::Sames::same_then, envy_soundness::proofs::Sames::same_within, envy_soundness::proofs::Sames::tally_still, envy_soundness::proofs::Sames::tally_then))]
 /// Copies a kept row into a row that is claimed at another position, and counts the program.
 fn program_move<B: Board>(
     board: &mut B,

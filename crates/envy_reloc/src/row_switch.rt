@@ -2,12 +2,12 @@ ghost use Rattle.std.specs.Prelude.{◌≡◌, ◌*◌, ◌<◌, ◌+◌, ◌-�
 ghost use Rattle.envy_base.specs.declared.fields.Job.TheVariants.{Copy};
 ghost use Rattle.envy_base.specs.declared.fields.Undo.TheVariants.{Clear};
 ghost use Rattle.envy_map.specs.Fields.{chart, undo};
-ghost use Rattle.envy_layout.specs.Jobs.{IsCopiedWhole};
-ghost use Rattle.envy_layout.specs.May.{IsCopied};
-ghost use Rattle.envy_layout.specs.Naming.{AreParted};
-ghost use Rattle.envy_layout.specs.Power.{power_of};
-ghost use Rattle.envy_layout.specs.Same.{Same};
-ghost use Rattle.envy_layout.specs.Sound.{IsSound, IsSpare};
+ghost use Rattle.envy_soundness.specs.Jobs.{IsCopiedWhole};
+ghost use Rattle.envy_soundness.specs.May.{IsCopied};
+ghost use Rattle.envy_soundness.specs.Naming.{AreParted};
+ghost use Rattle.envy_soundness.specs.Power.{power_of};
+ghost use Rattle.envy_soundness.specs.Same.{Same};
+ghost use Rattle.envy_soundness.specs.Sound.{IsSound, IsSpare};
 ghost use Rattle.envy_reloc.specs.Keeping.{PartsAgree, PartsFollow};
 ghost use Rattle.envy_reloc.specs.Settling.{KeepsOthers};
 ghost use Rattle.envy_reloc.specs.Switching.{SwitchesRow, SwitchesAll};
@@ -15,8 +15,8 @@ ghost use Rattle.envy_reloc.specs.declared.row_switch.Switched.{Switched};
 
 use crate::notes::follow;
 use envy_base::{Board, Off};
-use envy_layout::{Kept, begin_switch, row_owner, switch_place, switch_undo};
 use envy_map::origin;
+use envy_soundness::{Kept, begin_switch, row_owner, switch_place, switch_undo};
 use envy_space::Space;
 use envy_table::Cache;
 

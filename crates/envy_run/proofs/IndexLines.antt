@@ -18,8 +18,8 @@ use Rattle.envy_btree.specs.declared.line.IndexLine.{IndexLine}
 use Rattle.envy_btree.specs.declared.line.IndexLine.TheVariants.{Get, Insert, Remove}
 use Rattle.envy_btree.specs.declared.reply.IndexReply.{IndexReply}
 use Rattle.envy_btree.specs.declared.reply.IndexReply.TheVariants.{Full, Fault, Lost}
-use Rattle.envy_layout.specs.Words.{durable}
-use Rattle.envy_layout.proofs.WordLists.{length-durable}
+use Rattle.envy_soundness.specs.Words.{durable}
+use Rattle.envy_soundness.proofs.WordLists.{length-durable}
 use Rattle.envy_map.specs.Fields.{Chart}
 use Rattle.envy_memory.specs.Calls.{planned}
 use Rattle.envy_memory.specs.Lawful.{words_long}

@@ -10,7 +10,7 @@ use Rattle.envy_base.proofs.Counting.{up-least, up-below}
 use Rattle.envy_base.specs.declared.faults.PlannedFault.{PlannedFault}
 use Rattle.envy_array.specs.Step.{Command, Lost as LostAs}
 use Rattle.envy_base.specs.declared.shape.Shape.{Shape}
-use Rattle.envy_flush.proofs.CountLemmas.{Tallies-trans}
+use Rattle.envy_engine.proofs.CountLemmas.{Tallies-trans}
 use Rattle.envy_io.specs.declared.source.Failed.{Failed}
 use Rattle.envy_io.specs.Lines.{newline}
 use Rattle.envy_io.specs.Streams.{Drain, Rises, WritesAll, with_end}
@@ -19,9 +19,9 @@ use Rattle.envy_map.specs.Fields.{Chart}
 use Rattle.envy_memory.proofs.Counted.{Tallies-stay, up-low}
 use Rattle.envy_memory.proofs.Stepped.{lost-fresh}
 use Rattle.envy_memory.specs.Picture.{Picture, counts_of}
-use Rattle.envy_layout.specs.Sound.{IsSound}
+use Rattle.envy_soundness.specs.Sound.{IsSound}
 use Rattle.envy_meaning.specs.Stands.{Holds, Stands, IsLost as LostIn}
-use Rattle.envy_layout.specs.Words.{durable}
+use Rattle.envy_soundness.specs.Words.{durable}
 use Rattle.envy_memory.specs.Calls.{fresh, pulled}
 use Rattle.envy_memory.specs.Rises.{RoseBy, RoseOver}
 use Rattle.envy_trace.specs.declared.line.Line.{Line}

@@ -5,7 +5,7 @@ use Rattle.envy_array.specs.Array.{Array}
 use Rattle.envy_base.specs.declared.faults.PlannedFault.{PlannedFault}
 use Rattle.envy_array.specs.Step.{Command, Answer}
 use Rattle.envy_map.specs.Fields.{Chart}
-use Rattle.envy_layout.specs.Same.{Counted}
+use Rattle.envy_soundness.specs.Same.{Counted}
 use Rattle.envy_meaning.specs.Stands.{Fails, Stands, Steps}
 use Rattle.envy_array.specs.declared.counts.Counts.{Counts}
 use Rattle.envy_memory.proofs.Counted.{up-low}

@@ -20,7 +20,7 @@ use Rattle.envy_io.specs.Streams.{Feed, Drain, with_front}
 use Rattle.envy_io.specs.Taking.{Taking}
 use Rattle.envy_map.specs.Codes.{the_magic}
 use Rattle.envy_map.specs.Fields.{Chart, chart, map_fields}
-use Rattle.envy_layout.specs.Sound.{Sound as SoundMap}
+use Rattle.envy_soundness.specs.Sound.{Sound as SoundMap}
 use Rattle.envy_memory.specs.Formats.{IsStarted}
 use Rattle.envy_memory.specs.Picture.{Picture}
 use Rattle.envy_policy.specs.Setup.{checked}

@@ -12,7 +12,7 @@ use Rattle.std.proofs.lemmas.List.Sums.{sum_by-cons}
 use Rattle.envy_io.specs.Streams.{Feed, Drain}
 use Rattle.envy_map.specs.Fields.{Chart, chart}
 use Rattle.envy_base.specs.Counting.{up, Tally}
-use Rattle.envy_flush.specs.Counts.{Tallies, Tally3}
+use Rattle.envy_engine.specs.Counts.{Tallies, Tally3}
 use Rattle.envy_meaning.specs.Stands.{Stands}
 use Rattle.envy_memory.proofs.Counted.{Tallies-stay, below-top}
 use Rattle.envy_memory.specs.Formats.{IsFresh, IsStarted, no_counts}

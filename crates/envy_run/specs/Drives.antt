@@ -7,9 +7,9 @@ use Rattle.envy_args.specs.declared.command.WordsFault.{WordsFault}
 use Rattle.envy_base.specs.State.{State}
 use Rattle.envy_array.specs.declared.area.Area.{Area}
 use Rattle.envy_io.specs.Lines.{newline}
-use Rattle.envy_layout.specs.Sound.{IsSound}
+use Rattle.envy_soundness.specs.Sound.{IsSound}
 use Rattle.envy_meaning.specs.Stands.{Stands}
-use Rattle.envy_layout.specs.Words.{durable}
+use Rattle.envy_soundness.specs.Words.{durable}
 use Rattle.envy_map.specs.Fields.{Chart}
 use Rattle.envy_memory.specs.Calls.{fresh}
 use Rattle.envy_policy.specs.declared.setup.Setup.{Setup}

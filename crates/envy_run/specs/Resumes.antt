@@ -9,7 +9,7 @@ use Rattle.envy_base.specs.declared.shape.Shape.{Shape}
 use Rattle.envy_image.specs.Image.{head_of, image_of}
 use Rattle.envy_io.specs.Streams.{with_front}
 use Rattle.envy_meaning.specs.Stands.{Stands}
-use Rattle.envy_layout.specs.Words.{durable}
+use Rattle.envy_soundness.specs.Words.{durable}
 use Rattle.envy_map.specs.Fields.{Chart, chart}
 use Rattle.envy_memory.specs.Calls.{fresh}
 use Rattle.envy_policy.specs.Setup.{checked}

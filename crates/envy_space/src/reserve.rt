@@ -1,15 +1,15 @@
 ghost use Rattle.std.specs.Prelude.{◌≡◌, ◌<◌, false, ℕ, IsTrue, Some, OnOk};
 ghost use Rattle.envy_base.specs.declared.fields.Job.TheVariants.{Erase};
 ghost use Rattle.envy_map.specs.Fields.{chart};
-ghost use Rattle.envy_layout.specs.Power.{power_of};
-ghost use Rattle.envy_layout.specs.Same.{Same};
-ghost use Rattle.envy_layout.specs.Sound.{IsSound};
+ghost use Rattle.envy_soundness.specs.Power.{power_of};
+ghost use Rattle.envy_soundness.specs.Same.{Same};
+ghost use Rattle.envy_soundness.specs.Sound.{IsSound};
 ghost use Rattle.envy_space.specs.Pool.{PoolAgrees};
 ghost use Rattle.envy_space.specs.Retiring.{IsFresh, LowestFresh, RetiresTo};
 
 use crate::Space;
 use envy_base::{Board, Off, all_positions_of};
-use envy_layout::{close_spare, retire_spare};
+use envy_soundness::{close_spare, retire_spare};
 
 impl Space {
     /// The lowest position in reserve of whose segment no row has been claimed, or none.

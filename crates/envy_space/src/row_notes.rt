@@ -1,8 +1,8 @@
 ghost use Rattle.std.specs.Prelude.{◌*◌, ◌<◌, ℕ, List, Option};
 ghost use Rattle.envy_base.specs.declared.shape.Shape.{Shape};
 ghost use Rattle.envy_map.specs.Fields.{Fields};
-ghost use Rattle.envy_layout.specs.Naming.{IsNamed, with_named, AreParted};
-ghost use Rattle.envy_layout.specs.Sound.{Sound, Names};
+ghost use Rattle.envy_soundness.specs.Naming.{IsNamed, with_named, AreParted};
+ghost use Rattle.envy_soundness.specs.Sound.{Sound, Names};
 ghost use Rattle.envy_space.specs.Following.{Followed};
 ghost use Rattle.envy_space.specs.Pool.{Pool, PoolAgrees};
 

@@ -6,8 +6,8 @@ use Rattle.envy_disk.specs.Disk.{SyncsChart}
 use Rattle.envy_journal.specs.Content.{Content, content_of, holds}
 use Rattle.envy_journal.specs.Reading.{operations}
 use Rattle.envy_synced.specs.Disk.{IsBefore, IsLast, Reopens}
-use Rattle.envy_layout.specs.Sound.{IsSound, Sound}
-use Rattle.envy_layout.specs.Words.{durable, durable_word, words}
+use Rattle.envy_soundness.specs.Sound.{IsSound, Sound}
+use Rattle.envy_soundness.specs.Words.{durable, durable_word, words}
 use Rattle.envy_map.specs.Fields.{Chart, Fields, chart, map_fields}
 use Rattle.envy_memory.specs.Calls.{Works}
 

@@ -8,7 +8,7 @@ use Rattle.envy_array.specs.Array.{Array, owner, page_of}
 use Rattle.envy_base.specs.declared.shape.Shape.{Shape}
 use Rattle.envy_array.specs.Step.{Answer, Load, Begin, Put, Commit, Word, Done, Started, Range, Held, Closed as ClosedAnswer, Full, Busy, Step, Lost}
 use Rattle.envy_meaning.specs.Stands.{Stands, Steps}
-use Rattle.envy_layout.specs.Words.{durable}
+use Rattle.envy_soundness.specs.Words.{durable}
 use Rattle.envy_memory.specs.Calls.{Loads, Begins, Puts, Commits, IsCut, HasFailed, fresh}
 use Rattle.envy_memory.specs.Picture.{Picture}
 use Rattle.envy_memory.specs.declared.faults.LoadFault.{LoadFault}

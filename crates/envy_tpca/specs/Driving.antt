@@ -4,7 +4,7 @@ use Rattle.envy_base.specs.declared.faults.PlannedFault.{PlannedFault}
 use Rattle.envy_base.specs.declared.faults.PlannedFault.TheVariants.{Cut}
 use Rattle.envy_array.specs.declared.area.Area.{Area}
 use Rattle.envy_array.specs.declared.counts.Counts.{Counts}
-use Rattle.envy_layout.specs.Words.{durable}
+use Rattle.envy_soundness.specs.Words.{durable}
 use Rattle.envy_memory.specs.Picture.{Picture, counts_of}
 use Rattle.envy_tpca.specs.declared.sums.Sums.{Sums}
 use Rattle.envy_tpca.specs.Load.{Draws, first}

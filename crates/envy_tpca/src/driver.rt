@@ -4,7 +4,7 @@ ghost use Rattle.std.specs.Prelude.{◌≡◌, ◌↔◌, ◌+◌, ◌*◌, ◌%
 ghost use Rattle.envy_array.specs.Area.{Fits};
 ghost use Rattle.envy_array.specs.Array.{Array, zeros, put_back};
 ghost use Rattle.envy_meaning.specs.Stands.{Stands};
-ghost use Rattle.envy_layout.specs.Words.{durable};
+ghost use Rattle.envy_soundness.specs.Words.{durable};
 ghost use Rattle.envy_memory.specs.Calls.{planned};
 ghost use Rattle.envy_tpca.specs.declared.places.Places.{Places as APlaces};
 ghost use Rattle.envy_tpca.specs.declared.transfer.Transfer.{Transfer as ATransfer};

@@ -1,7 +1,7 @@
 //! Adding up words by loads.
 
 ghost use Rattle.std.specs.Prelude.{◌≡◌, ◌+◌, ◌*◌, ◌^◌, ◌<◌, ◌≤◌, ℕ, length, slice_index};
-ghost use Rattle.envy_layout.specs.Words.{durable};
+ghost use Rattle.envy_soundness.specs.Words.{durable};
 ghost use Rattle.envy_tpca.specs.Loading.{Loaded};
 ghost use Rattle.envy_tpca.specs.Summing.{balances_in, history_in, Small};
 ghost use Rattle.envy_tpca.specs.Trying.{Rests};

@@ -1,16 +1,16 @@
 ghost use Rattle.std.specs.Prelude.{◌≡◌, ◌+◌, ◌<◌, ◌≤◌, ℕ, false, IsTrue, Some, IfOk, OnOk, OnErr};
 ghost use Rattle.envy_base.specs.declared.fields.Undo.TheVariants.{Clear};
 ghost use Rattle.envy_map.specs.Fields.{Chart, chart, undo as undo_of};
-ghost use Rattle.envy_layout.specs.Power.{power_of};
-ghost use Rattle.envy_layout.specs.Same.{SameDurable, SameWords};
-ghost use Rattle.envy_layout.specs.Sound.{IsSound, slots_of};
+ghost use Rattle.envy_soundness.specs.Power.{power_of};
+ghost use Rattle.envy_soundness.specs.Same.{SameDurable, SameWords};
+ghost use Rattle.envy_soundness.specs.Sound.{IsSound, slots_of};
 ghost use Rattle.envy_txn.specs.Ending.{Settles};
 ghost use Rattle.envy_txn.specs.Turns.{SettledTo, VacatedTo};
 
 use crate::undos::{place_in, put_back, slot_in};
 use envy_base::{Board, Off, Slot};
-use envy_layout::{clear_settled_undo, set_unused_slot};
 use envy_map::{slot, undo, version};
+use envy_soundness::{clear_settled_undo, set_unused_slot};
 
 /// Undoes the transactions that a failure of power left open, on a board of either version: each page is
 /// again where its undo says while the undo's slot is active, all undos become clear, and then all slots

@@ -10,7 +10,7 @@ use Rattle.envy_calls.specs.Making.{IsWhole}
 use Rattle.envy_journal.specs.Journal.{lawful_lem}
 use Rattle.envy_map.specs.Fields.{chart}
 use Rattle.envy_synced.specs.Disk.{lawful_disk}
-use Rattle.envy_layout.specs.Same.{Kept}
+use Rattle.envy_soundness.specs.Same.{Kept}
 use Rattle.envy_memory.specs.Attaching.{Attaches}
 use Rattle.envy_begun.proofs.found_journal.begin_again.Goals as goal
 

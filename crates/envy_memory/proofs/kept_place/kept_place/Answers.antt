@@ -2,7 +2,7 @@ use Rattle.std.proofs.Common.{◌≡◌, ◌∙◌, Some, ap}
 use Rattle.envy_base.specs.declared.fields.Undo.{Undo}
 use Rattle.envy_base.specs.declared.fields.Undo.TheVariants.{Blank, Shadow}
 use Rattle.envy_map.specs.Fields.{chart, undo}
-use Rattle.envy_layout.specs.Sound.{Sound, Slots, slot_named}
+use Rattle.envy_soundness.specs.Sound.{Sound, Slots, slot_named}
 use Rattle.envy_memory.proofs.kept_place.kept_place.Goals as goal
 
 pub slot-requires-clause-decodes : goal.slot-requires-clause-decodes

@@ -1,6 +1,6 @@
 use Rattle.std.proofs.Common.{◌≡◌, ◌≢◌, ℕ, ◌+◌, ◌*◌, ◌/◌, ◌<◌}
 use Rattle.std.specs.Prelude.{slice_index}
-use Rattle.envy_layout.specs.Words.{live, durable}
+use Rattle.envy_soundness.specs.Words.{live, durable}
 use Rattle.envy_mirror.specs.Asking.{Reckons}
 use Rattle.envy_mirror.specs.Pair.{IsClosed}
 use Rattle.envy_mirror.proofs.page_copy.copy_page.Given as goal

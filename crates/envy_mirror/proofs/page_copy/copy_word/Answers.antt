@@ -1,5 +1,5 @@
 use Rattle.std.proofs.Common.{ℕ, set, Err, ◌∙◌, ap, arith}
-use Rattle.envy_layout.specs.Words.{live}
+use Rattle.envy_soundness.specs.Words.{live}
 use Rattle.envy_memory.specs.declared.faults.StoreFault.{StoreFault}
 use Rattle.envy_mirror.proofs.Closing.{closed-stored, closed-failed, never-held}
 use Rattle.envy_mirror.proofs.page_copy.copy_word.Goals as goal

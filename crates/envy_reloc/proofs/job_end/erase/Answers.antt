@@ -2,9 +2,9 @@ use Rattle.std.proofs.Common.{◌∙◌, ap}
 use Rattle.std.specs.Prelude.{Err}
 use Rattle.envy_base.specs.declared.board.Trouble.{Trouble}
 use Rattle.envy_map.specs.Fields.{chart}
-use Rattle.envy_layout.specs.Power.{power_after}
-use Rattle.envy_layout.specs.Same.{Framed, Same, Stays}
-use Rattle.envy_layout.proofs.Sames.{then_same}
+use Rattle.envy_soundness.specs.Power.{power_after}
+use Rattle.envy_soundness.specs.Same.{Framed, Same, Stays}
+use Rattle.envy_soundness.proofs.Sames.{then_same}
 use Rattle.envy_reloc.proofs.RetireLemmas.{ends-retired}
 use Rattle.envy_reloc.proofs.StepLemmas.{spare-is}
 use Rattle.envy_reloc.proofs.job_end.erase.Goals as goal

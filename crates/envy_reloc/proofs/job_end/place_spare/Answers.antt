@@ -1,10 +1,10 @@
 use Rattle.std.proofs.Common.{◌≡◌, ◌∙◌, ℕ, List, get_or, sym, ap, subst}
 use Rattle.envy_map.specs.Fields.{Chart, chart}
-use Rattle.envy_layout.specs.Same.{Same, Stays}
-use Rattle.envy_layout.specs.Sound.{IsSpare}
-use Rattle.envy_layout.proofs.JobLaw.{AreHome-freed}
+use Rattle.envy_soundness.specs.Same.{Same, Stays}
+use Rattle.envy_soundness.specs.Sound.{IsSpare}
+use Rattle.envy_soundness.proofs.JobLaw.{AreHome-freed}
 use Rattle.envy_space.specs.Pool.{IsPoolOf, Replaces}
-use Rattle.envy_layout.proofs.Sames.{same_then}
+use Rattle.envy_soundness.proofs.Sames.{same_then}
 use Rattle.envy_reloc.proofs.job_end.place_spare.Goals as goal
 
 pub begin_erase-requires-clause-home : goal.begin_erase-requires-clause-home

@@ -4,17 +4,17 @@ use Rattle.envy_base.specs.Shape.{IsShape}
 use Rattle.envy_base.specs.State.{IsBoard}
 use Rattle.envy_base.specs.declared.shape.Shape.{Shape}
 use Rattle.envy_map.specs.Fields.{Fields, Chart, chart}
-use Rattle.envy_layout.specs.Claims.{IsUsable}
-use Rattle.envy_layout.specs.Same.{Same, Stays, Framed}
-use Rattle.envy_layout.specs.Sound.{Sound, Numbers}
+use Rattle.envy_soundness.specs.Claims.{IsUsable}
+use Rattle.envy_soundness.specs.Same.{Same, Stays, Framed}
+use Rattle.envy_soundness.specs.Sound.{Sound, Numbers}
 use Rattle.envy_space.specs.Pool.{IsPoolOf, PoolAgrees}
 use Rattle.envy_reloc.specs.Rows.{IsLeft}
-use Rattle.envy_layout.proofs.KeptLemmas.{Names-range}
-use Rattle.envy_layout.proofs.Claimed.{unswitched-copying}
+use Rattle.envy_soundness.proofs.KeptLemmas.{Names-range}
+use Rattle.envy_soundness.proofs.Claimed.{unswitched-copying}
 use Rattle.envy_reloc.proofs.CopyLemmas.{room-left, claims-row, ClaimsCopy-made}
 use Rattle.envy_reloc.proofs.Exits.{unpowered, off-after, off-if, off-bad}
 use Rattle.envy_reloc.proofs.SettleLemmas.{ok-map}
-use Rattle.envy_layout.proofs.Sames.{same_then, same_within, tally_still, tally_then}
+use Rattle.envy_soundness.proofs.Sames.{same_then, same_within, tally_still, tally_then}
 use Rattle.envy_reloc.proofs.row_copy.copy_row.Goals as goal
 
 pub note_origin-requires-clause-place : goal.note_origin-requires-clause-place

@@ -4,11 +4,11 @@ use Rattle.envy_base.specs.Shape.{IsShape}
 use Rattle.envy_base.specs.State.{IsBoard}
 use Rattle.envy_base.specs.declared.shape.Shape.{Shape}
 use Rattle.envy_map.specs.Fields.{chart}
-use Rattle.envy_layout.specs.declared.rows.Kept.{Kept}
-use Rattle.envy_layout.specs.Naming.{Keeps}
-use Rattle.envy_layout.specs.Sound.{Sound, Numbers, Names}
-use Rattle.envy_layout.proofs.Claimed.{row-range}
-use Rattle.envy_layout.proofs.NamingLemmas.{Names-named}
+use Rattle.envy_soundness.specs.declared.rows.Kept.{Kept}
+use Rattle.envy_soundness.specs.Naming.{Keeps}
+use Rattle.envy_soundness.specs.Sound.{Sound, Numbers, Names}
+use Rattle.envy_soundness.proofs.Claimed.{row-range}
+use Rattle.envy_soundness.proofs.NamingLemmas.{Names-named}
 use Rattle.envy_reloc.proofs.CopyLemmas.{kept-within, segment-of, not-below, below-unless}
 use Rattle.envy_reloc.proofs.Exits.{none-if}
 use Rattle.envy_reloc.proofs.row_copy.next_kept.Goals as goal

@@ -1,6 +1,6 @@
 use Rattle.std.proofs.Common.{◌≡◌, ℕ, ◌*◌, ◌/◌, ◌<◌, ◌≤◌}
 use Rattle.envy_map.specs.Fields.{chart}
-use Rattle.envy_layout.specs.Sound.{Names}
+use Rattle.envy_soundness.specs.Sound.{Names}
 use Rattle.envy_reloc.proofs.row_copy.next_kept.Given as goal
 
 -- no row of the segment that was looked at is kept

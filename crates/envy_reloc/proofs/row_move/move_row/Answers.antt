@@ -4,21 +4,21 @@ use Rattle.envy_base.specs.declared.board.Trouble.{Trouble}
 use Rattle.envy_base.specs.declared.shape.Shape.{Shape}
 use Rattle.envy_map.specs.Fields.{Fields, Chart, chart}
 use Rattle.envy_map.specs.Writes.{with_back, with_fill}
-use Rattle.envy_layout.specs.May.{MayName}
-use Rattle.envy_layout.specs.Power.{power_after}
+use Rattle.envy_soundness.specs.May.{MayName}
+use Rattle.envy_soundness.specs.Power.{power_after}
 use Rattle.envy_table.specs.Agreement.{AreCurrent}
 use Rattle.envy_table.proofs.HitLemmas.{Rests-refl}
-use Rattle.envy_layout.proofs.KeptLemmas.{Names-range}
-use Rattle.envy_layout.proofs.NamingLemmas.{Names-named}
-use Rattle.envy_layout.specs.Same.{Same, Stays, Framed}
-use Rattle.envy_layout.specs.Sound.{Names}
+use Rattle.envy_soundness.proofs.KeptLemmas.{Names-range}
+use Rattle.envy_soundness.proofs.NamingLemmas.{Names-named}
+use Rattle.envy_soundness.specs.Same.{Same, Stays, Framed}
+use Rattle.envy_soundness.specs.Sound.{Names}
 use Rattle.envy_space.specs.Pool.{IsPool, IsPoolOf}
 use Rattle.envy_reloc.specs.Keeping.{ClaimsTarget, CopiesTo, WastesRow}
 use Rattle.envy_reloc.specs.Phases.{MovesRow}
-use Rattle.envy_layout.specs.Naming.{IsNamed, with_named, AreParted}
+use Rattle.envy_soundness.specs.Naming.{IsNamed, with_named, AreParted}
 use Rattle.envy_reloc.specs.Rows.{HasRoom}
-use Rattle.envy_layout.proofs.Claimed.{MayName-claimed, unnamed-claimed, unswitched-copying}
-use Rattle.envy_layout.proofs.Sames.{then_same, tally_end}
+use Rattle.envy_soundness.proofs.Claimed.{MayName-claimed, unnamed-claimed, unswitched-copying}
+use Rattle.envy_soundness.proofs.Sames.{then_same, tally_end}
 use Rattle.envy_reloc.proofs.Exits.{off-after, off-if, off-bad, err-after, err-if, err-bad}
 use Rattle.envy_reloc.proofs.row_move.move_row.Goals as goal
 

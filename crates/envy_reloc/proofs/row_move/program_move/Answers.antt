@@ -4,12 +4,12 @@ use Rattle.envy_base.specs.declared.shape.Shape.{Shape}
 use Rattle.envy_map.specs.Fields.{Fields, Chart, chart}
 use Rattle.envy_base.specs.Counting.{up}
 use Rattle.envy_map.specs.Writes.{with_back, with_fill}
-use Rattle.envy_layout.specs.Same.{Same, Stays, Framed}
-use Rattle.envy_layout.specs.Sound.{Sound, Numbers}
-use Rattle.envy_layout.proofs.Claimed.{unswitched-copying}
+use Rattle.envy_soundness.specs.Same.{Same, Stays, Framed}
+use Rattle.envy_soundness.specs.Sound.{Sound, Numbers}
+use Rattle.envy_soundness.proofs.Claimed.{unswitched-copying}
 use Rattle.envy_space.specs.Pool.{PoolAgrees}
 use Rattle.envy_reloc.proofs.Exits.{unpowered, off-after, off-if, off-bad, err-after, err-if, err-bad}
-use Rattle.envy_layout.proofs.Sames.{same_then, same_within, tally_still, tally_then}
+use Rattle.envy_soundness.proofs.Sames.{same_then, same_within, tally_still, tally_then}
 use Rattle.envy_reloc.proofs.row_move.program_move.Goals as goal
 
 pub claim-requires-clause-ready : goal.claim-requires-clause-ready

@@ -1,15 +1,15 @@
 use Rattle.std.proofs.Common.{◌*◌, ◌<◌, refl, sym, ap, subst}
 use Rattle.envy_base.specs.declared.shape.Shape.{Shape}
 use Rattle.envy_map.specs.Fields.{Chart, chart}
-use Rattle.envy_layout.specs.Same.{Same, Stays}
-use Rattle.envy_layout.specs.May.{MayName}
-use Rattle.envy_layout.specs.Sound.{IsSound}
+use Rattle.envy_soundness.specs.Same.{Same, Stays}
+use Rattle.envy_soundness.specs.May.{MayName}
+use Rattle.envy_soundness.specs.Sound.{IsSound}
 use Rattle.envy_space.specs.Pool.{Pool, IsPoolOf, PoolAgrees}
-use Rattle.envy_layout.specs.Naming.{AreParted}
-use Rattle.envy_layout.specs.Naming.{with_named}
+use Rattle.envy_soundness.specs.Naming.{AreParted}
+use Rattle.envy_soundness.specs.Naming.{with_named}
 use Rattle.envy_table.specs.Agreement.{AreCurrent}
-use Rattle.envy_layout.proofs.NamingLemmas.{AreParted-named, Names-named}
-use Rattle.envy_layout.proofs.KeptLemmas.{Names-range}
+use Rattle.envy_soundness.proofs.NamingLemmas.{AreParted-named, Names-named}
+use Rattle.envy_soundness.proofs.KeptLemmas.{Names-range}
 use Rattle.envy_table.proofs.HitLemmas.{Rests-refl}
 use Rattle.envy_reloc.proofs.Exits.{unpowered}
 use Rattle.envy_space.specs.Following.{Followed}

@@ -1,12 +1,12 @@
 use Rattle.std.proofs.Common.{ℕ, ◌+◌, ◌*◌, ◌<◌, List, Option, refl, sym, ap, subst}
 use Rattle.envy_base.specs.declared.shape.Shape.{Shape}
 use Rattle.envy_map.specs.Fields.{Fields, chart}
-use Rattle.envy_layout.specs.Naming.{AreParted}
-use Rattle.envy_layout.proofs.Claimed.{row-range}
-use Rattle.envy_layout.proofs.KeptLemmas.{Names-range}
-use Rattle.envy_layout.proofs.NamingLemmas.{Names-named}
-use Rattle.envy_layout.specs.Same.{Same, Stays, Framed}
-use Rattle.envy_layout.specs.Sound.{Sound}
+use Rattle.envy_soundness.specs.Naming.{AreParted}
+use Rattle.envy_soundness.proofs.Claimed.{row-range}
+use Rattle.envy_soundness.proofs.KeptLemmas.{Names-range}
+use Rattle.envy_soundness.proofs.NamingLemmas.{Names-named}
+use Rattle.envy_soundness.specs.Same.{Same, Stays, Framed}
+use Rattle.envy_soundness.specs.Sound.{Sound}
 use Rattle.envy_space.specs.Pool.{Pool, PoolAgrees}
 use Rattle.envy_table.specs.Agreement.{AreCurrent}
 use Rattle.envy_reloc.specs.declared.row_switch.Switched.{Switched}

@@ -1,13 +1,13 @@
 use Rattle.std.proofs.Common.{◌≡◌, ◌∙◌, ℕ, ◌+◌, ◌<◌, List, get_or, refl, sym, ap, subst, arith}
 use Rattle.envy_base.specs.declared.shape.Shape.{Shape}
 use Rattle.envy_map.specs.Fields.{Chart, chart}
-use Rattle.envy_layout.specs.Same.{Same, Stays, Framed}
-use Rattle.envy_layout.specs.Naming.{AreParted}
-use Rattle.envy_layout.specs.Sound.{Sound, Numbers}
-use Rattle.envy_layout.proofs.Composition.{Same-refl}
+use Rattle.envy_soundness.specs.Same.{Same, Stays, Framed}
+use Rattle.envy_soundness.specs.Naming.{AreParted}
+use Rattle.envy_soundness.specs.Sound.{Sound, Numbers}
+use Rattle.envy_soundness.proofs.Composition.{Same-refl}
 use Rattle.envy_space.specs.Pool.{IsPoolOf, PoolAgrees}
 use Rattle.envy_table.specs.Agreement.{AreCurrent}
-use Rattle.envy_layout.proofs.Sames.{then_same}
+use Rattle.envy_soundness.proofs.Sames.{then_same}
 use Rattle.envy_table.proofs.HitLemmas.{Rests-refl, Rests-trans}
 use Rattle.envy_reloc.specs.Switching.{SwitchesRows}
 use Rattle.envy_reloc.proofs.SwitchLemmas.{IsCopied-going, SwitchesRows-none, SwitchesRows-next, SwitchesAll-made}

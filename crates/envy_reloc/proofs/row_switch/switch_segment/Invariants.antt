@@ -1,11 +1,11 @@
 use Rattle.std.proofs.Common.{◌≡◌}
 use Rattle.std.specs.Prelude.{IsTrue}
 use Rattle.envy_map.specs.Fields.{chart}
-use Rattle.envy_layout.specs.Same.{Same}
+use Rattle.envy_soundness.specs.Same.{Same}
 use Rattle.envy_space.specs.Pool.{PoolAgrees}
 use Rattle.envy_table.specs.Agreement.{AreCurrent}
 use Rattle.envy_table.specs.Hits.{Rests}
-use Rattle.envy_layout.specs.Naming.{AreParted}
+use Rattle.envy_soundness.specs.Naming.{AreParted}
 use Rattle.envy_reloc.specs.Switching.{SwitchesRows}
 use Rattle.envy_reloc.proofs.row_switch.switch_segment.Given as goal
 

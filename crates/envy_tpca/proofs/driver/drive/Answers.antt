@@ -1,6 +1,6 @@
 use Rattle.std.proofs.Common.{◌≡◌, ℕ, ◌≤◌, ◌+◌, ◌*◌, Ok, arith, ap, sym, ◌∙◌, subst}
 use Rattle.std.specs.Prelude.{replicate}
-use Rattle.envy_layout.specs.Words.{durable}
+use Rattle.envy_soundness.specs.Words.{durable}
 use Rattle.envy_map.specs.Fields.{Chart}
 use Rattle.envy_base.specs.declared.shape.Shape.{Shape}
 use Rattle.envy_tpca.specs.declared.places.Places.{Places}

@@ -1,7 +1,7 @@
 use Rattle.std.proofs.Common.{◌≡◌, ℕ, subst, ◌<◌, ◌+◌, ◌*◌, arith, ap, refl, sym, ◌∙◌}
 use Rattle.std.specs.Prelude.{◌^◌}
 use Rattle.envy_array.specs.Array.{put_back}
-use Rattle.envy_layout.specs.Words.{durable}
+use Rattle.envy_soundness.specs.Words.{durable}
 use Rattle.envy_memory.specs.Calls.{fresh}
 use Rattle.envy_tpca.specs.declared.transfer.Transfer.{Transfer}
 use Rattle.envy_tpca.specs.Load.{Draws, next_transfer, after, first}

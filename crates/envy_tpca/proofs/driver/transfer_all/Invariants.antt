@@ -1,5 +1,5 @@
 use Rattle.std.proofs.Common.{◌≡◌, ◌*◌}
-use Rattle.envy_layout.specs.Words.{durable}
+use Rattle.envy_soundness.specs.Words.{durable}
 use Rattle.envy_tpca.specs.Load.{after, first}
 use Rattle.envy_tpca.specs.Loading.{CountsUncut}
 use Rattle.envy_tpca.specs.Running.{IsAt}

@@ -1,5 +1,5 @@
 use Rattle.std.proofs.Common.{◌/◌}
-use Rattle.envy_layout.specs.Words.{durable}
+use Rattle.envy_soundness.specs.Words.{durable}
 use Rattle.envy_memory.specs.Calls.{fresh}
 use Rattle.envy_tpca.proofs.Loading.{load-none-refused, word-loaded, accessed-one}
 use Rattle.envy_tpca.proofs.load_sums.load_at.Goals as goal

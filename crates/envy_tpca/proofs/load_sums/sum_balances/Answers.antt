@@ -2,7 +2,7 @@ use Rattle.std.proofs.Common.{refl, arith, ◌≡◌, ◌∙◌, ◌<◌, ◌+�
 use Rattle.std.specs.Int.{cast_signed}
 use Rattle.std.specs.Prelude.{slice_index}
 use Rattle.envy_map.specs.Fields.{Chart}
-use Rattle.envy_layout.specs.Words.{durable}
+use Rattle.envy_soundness.specs.Words.{durable}
 use Rattle.envy_tpca.specs.Summing.{signed_at}
 use Rattle.envy_tpca.proofs.Loading.{loaded-none, loaded-more, loaded-chart, rests-same}
 use Rattle.envy_tpca.proofs.Totals.{sum-step}

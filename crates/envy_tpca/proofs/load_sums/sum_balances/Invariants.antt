@@ -1,5 +1,5 @@
 use Rattle.std.proofs.Common.{◌≡◌}
-use Rattle.envy_layout.specs.Words.{durable}
+use Rattle.envy_soundness.specs.Words.{durable}
 use Rattle.envy_tpca.specs.Loading.{Loaded}
 use Rattle.envy_tpca.specs.Summing.{balances_in}
 use Rattle.envy_tpca.proofs.load_sums.sum_balances.Given as goal

@@ -1,8 +1,8 @@
 use Rattle.std.proofs.Common.{◌≡◌, ℕ, true, refl, sym, ◌∙◌, subst}
 use Rattle.envy_map.specs.Fields.{chart}
-use Rattle.envy_layout.specs.Same.{SameDurable}
-use Rattle.envy_layout.specs.Sound.{slots_of}
-use Rattle.envy_layout.proofs.Composition.{SameDurable-refl, SameDurable-trans, SameDurable-words}
+use Rattle.envy_soundness.specs.Same.{SameDurable}
+use Rattle.envy_soundness.specs.Sound.{slots_of}
+use Rattle.envy_soundness.proofs.Composition.{SameDurable-refl, SameDurable-trans, SameDurable-words}
 use Rattle.envy_txn.specs.Turns.{VacatedTo}
 use Rattle.envy_txn.proofs.SettleLemmas.{settled-clear, Settles-all}
 use Rattle.envy_txn.proofs.WayLemmas.{none-done, off-of, unlit}

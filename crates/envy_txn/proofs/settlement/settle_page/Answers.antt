@@ -1,8 +1,8 @@
 use Rattle.std.proofs.Common.{◌≡◌, ◌≢◌, Some, sym, ◌∙◌, ap, rules}
 use Rattle.envy_base.specs.declared.fields.Slot.TheVariants.{Active}
 use Rattle.envy_map.specs.Fields.{chart, slot, undo}
-use Rattle.envy_layout.specs.Sound.{Sound, Places, Slots, slot_named}
-use Rattle.envy_layout.specs.Words.{kept}
+use Rattle.envy_soundness.specs.Sound.{Sound, Places, Slots, slot_named}
+use Rattle.envy_soundness.specs.Words.{kept}
 use Rattle.envy_txn.proofs.BackLoop.{Returns}
 use Rattle.envy_txn.proofs.SettleLemmas.{SettledTo-more, SettlesOne-back, SettlesOne-cleared, slot-decodes, kept-active}
 use Rattle.envy_txn.proofs.settlement.settle_page.Goals as goal

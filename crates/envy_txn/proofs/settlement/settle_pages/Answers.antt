@@ -1,5 +1,5 @@
 use Rattle.envy_map.specs.Fields.{chart}
-use Rattle.envy_layout.proofs.Composition.{SameDurable-trans}
+use Rattle.envy_soundness.proofs.Composition.{SameDurable-trans}
 use Rattle.envy_txn.proofs.settlement.settle_pages.Goals as goal
 
 pub loop-page-preserved : goal.loop-page-preserved

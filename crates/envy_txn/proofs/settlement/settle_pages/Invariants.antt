@@ -1,6 +1,6 @@
 use Rattle.std.specs.Prelude.{IsTrue}
 use Rattle.envy_map.specs.Fields.{chart}
-use Rattle.envy_layout.specs.Same.{SameDurable}
+use Rattle.envy_soundness.specs.Same.{SameDurable}
 use Rattle.envy_txn.specs.Turns.{SettledTo}
 use Rattle.envy_txn.proofs.settlement.settle_pages.Given as goal
 

@@ -1,5 +1,5 @@
 use Rattle.envy_map.specs.Fields.{chart}
-use Rattle.envy_layout.proofs.Composition.{SameWords-trans}
+use Rattle.envy_soundness.proofs.Composition.{SameWords-trans}
 use Rattle.envy_txn.proofs.settlement.vacate_slots.Goals as goal
 
 pub loop-t-preserved : goal.loop-t-preserved

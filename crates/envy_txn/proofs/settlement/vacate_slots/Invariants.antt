@@ -1,6 +1,6 @@
 use Rattle.std.specs.Prelude.{IsTrue}
 use Rattle.envy_map.specs.Fields.{chart}
-use Rattle.envy_layout.specs.Same.{SameWords}
+use Rattle.envy_soundness.specs.Same.{SameWords}
 use Rattle.envy_txn.specs.Turns.{VacatedTo}
 use Rattle.envy_txn.proofs.settlement.vacate_slots.Given as goal
 

@@ -2,18 +2,18 @@ use Rattle.std.proofs.Common.{◌≡◌, inl, ◌∙◌, ℕ, ◌/◌, ◌*◌, 
 use Rattle.std.specs.Prelude.{All}
 use Rattle.std.proofs.lemmas.List.Elements.{All-rest}
 use Rattle.envy_map.specs.Fields.{chart}
-use Rattle.envy_layout.specs.Sound.{IsKept}
-use Rattle.envy_layout.specs.declared.rows.Kept.{Kept}
+use Rattle.envy_soundness.specs.Sound.{IsKept}
+use Rattle.envy_soundness.specs.declared.rows.Kept.{Kept}
 use Rattle.envy_reloc.specs.Plan.{Plan}
 use Rattle.envy_reloc.specs.Rows.{Rooms, IsLowestRoom}
-use Rattle.envy_layout.specs.Naming.{Keeps}
+use Rattle.envy_soundness.specs.Naming.{Keeps}
 use Rattle.envy_reloc.proofs.CopyLemmas.{in-segment}
 use Rattle.envy_reloc.proofs.MoveLemmas.{first-taken, dropped-more, none-left}
 use Rattle.envy_base.specs.Shape.{IsShape, positions_of}
 use Rattle.envy_base.specs.State.{IsBoard}
 use Rattle.envy_base.specs.declared.shape.Shape.{Shape}
-use Rattle.envy_layout.proofs.Claimed.{row-range}
-use Rattle.envy_layout.proofs.NamingLemmas.{Names-named}
+use Rattle.envy_soundness.proofs.Claimed.{row-range}
+use Rattle.envy_soundness.proofs.NamingLemmas.{Names-named}
 use Rattle.envy_reloc.specs.Phases.{IsFirstMove}
 use Rattle.envy_reloc.proofs.Exits.{none-if}
 use Rattle.envy_reloc.proofs.KeepLemmas.{becomes-moves}
