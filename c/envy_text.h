@@ -1,4 +1,4 @@
-/* Texts for the numbers of envy_codes.h and envy_file.h, and the version. No memory is taken. */
+/* Texts for the numbers of envy_codes.h, and the version. No memory is taken. */
 #ifndef ENVY_TEXT_H
 #define ENVY_TEXT_H
 

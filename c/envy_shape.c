@@ -1,7 +1,8 @@
-/* What is known of a kept file before it is opened, and a place for one that a language without this header can have. */
+/* What is known of a file before it is opened. */
 #define _GNU_SOURCE
 #include "envy_head.h"
-#include "envy_kept_file.h"
+#include "envy_mapping.h"
+#include "envy_served.h"
 #include <errno.h>
 #include <fcntl.h>
 #include <stdlib.h>
@@ -50,12 +51,12 @@ static uint32_t told(const uint8_t *head, envy_setup *setup) {
         .mark = size_at(head, 4),
     };
     uint64_t bytes;
-    if (envy_kept_size(&found, &bytes) != ENVY_DONE) return ENVY_NO_JOURNAL;
+    if (envy_board_size(&found, &bytes) != ENVY_DONE) return ENVY_NO_JOURNAL;
     *setup = found;
     return ENVY_DONE;
 }
 
-uint32_t envy_kept_file_shape(const char *path, envy_setup *setup) {
+uint32_t envy_served_shape(const char *path, envy_setup *setup) {
     uint8_t head[HEAD];
     /* (so that a pipe isn't waited for) */
     int descriptor = open(path, O_RDONLY | O_CLOEXEC | O_NONBLOCK);
@@ -67,8 +68,14 @@ uint32_t envy_kept_file_shape(const char *path, envy_setup *setup) {
     return code == ENVY_DONE ? told(head, setup) : code;
 }
 
-envy_kept_file *envy_kept_file_new(void) {
-    envy_kept_file *f = malloc(sizeof *f);
-    if (f) *f = (envy_kept_file)ENVY_KEPT_FILE_INIT;
+envy_served *envy_served_new(void) {
+    envy_served *f = malloc(sizeof *f);
+    if (f) *f = (envy_served)ENVY_SERVED_INIT;
     return f;
+}
+
+/* (a journal isn't formatted as regions are, and regions hold no journal) */
+uint32_t envy_file_shape(const char *path, envy_setup *setup) {
+    uint32_t code = envy_served_shape(path, setup);
+    return code == ENVY_NO_JOURNAL ? envy_mapping_shape(path, setup) : code;
 }

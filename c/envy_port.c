@@ -4,7 +4,7 @@
    meet those of a C library:
 
        objcopy --redefine-sym write=envy_disk_order --redefine-sym read=envy_disk_answer LIBRARY.a */
-#include "envy_kept.h"
+#include "envy_disk.h"
 #include <stdatomic.h>
 #include <string.h>
 
