@@ -1,6 +1,5 @@
 //! A memory in a file that outlives the machine, as a Rust program uses it.
-#![cfg(feature = "kept")]
-use envy::{Error, Index, KeptMemory, Setup};
+use envy::{Error, Index, Memory, Open, Policy, Setup};
 use std::error::Error as _;
 use std::path::PathBuf;
 use std::process::Command;
@@ -16,8 +15,8 @@ fn path(name: &str) -> PathBuf {
 fn what_was_synced_is_found() {
     let path = path("synced");
     let setup = Setup::for_words(1000, 4).unwrap();
-    let memory = KeptMemory::open(&path, &setup).unwrap();
-    assert!(matches!(KeptMemory::open(&path, &setup), Err(Error::Locked)));
+    let memory = Memory::open_file(&path, &setup, Open::CREATE).unwrap();
+    assert!(matches!(Memory::open_file(&path, &setup, Open::CREATE), Err(Error::Locked)));
     let transfer = memory.begin().unwrap();
     transfer.put(5, 7).unwrap();
     transfer.write(40, &[1, 2, 3]).unwrap();
@@ -32,9 +31,9 @@ fn what_was_synced_is_found() {
     memory.compact().unwrap();
     memory.close().unwrap();
 
-    let found = KeptMemory::open(&copy, &setup).unwrap();
+    let found = Memory::open_file(&copy, &setup, Open::CREATE).unwrap();
     assert_eq!((found.load(5).unwrap(), found.load(42).unwrap()), (7, 3));
-    let again = KeptMemory::open_bytewise(&path, &setup).unwrap();
+    let again = Memory::open_file(&path, &setup, Open::BYTEWISE | Open::COMPACT).unwrap();
     let mut words = [0; 3];
     again.read(40, &mut words).unwrap();
     assert_eq!((again.look(5).unwrap(), words), (8, [1, 2, 3]));
@@ -48,14 +47,14 @@ fn what_was_synced_is_found() {
 fn a_transaction_that_is_dropped_is_undone_and_other_files_are_refused() {
     let path = path("refused");
     let setup = Setup::for_words(1000, 4).unwrap();
-    let memory = KeptMemory::open(&path, &setup).unwrap();
+    let memory = Memory::open_file(&path, &setup, Open::CREATE).unwrap();
     drop(memory.begin().map(|it| it.put(5, 7)));
     assert_eq!(memory.load(5).unwrap(), 0);
     drop(memory);
     let other = Setup::for_words(2000, 4).unwrap();
-    assert!(matches!(KeptMemory::open(&path, &other), Err(Error::OtherShape)));
+    assert!(matches!(Memory::open_file(&path, &other, Open::CREATE), Err(Error::OtherShape)));
     fs::write(&path, "a text of another kind, which is long enough").unwrap();
-    assert!(matches!(KeptMemory::open(&path, &setup), Err(Error::NoJournal)));
+    assert!(matches!(Memory::open_file(&path, &setup, Open::CREATE), Err(Error::NoJournal)));
     fs::remove_file(path).unwrap();
 }
 
@@ -63,7 +62,7 @@ fn a_transaction_that_is_dropped_is_undone_and_other_files_are_refused() {
 fn a_map_in_a_kept_file_is_found() {
     let path = path("map");
     let setup = Setup::for_words(32 * 60, 32).unwrap();
-    let index = Index::create(KeptMemory::open(&path, &setup).unwrap()).unwrap();
+    let index = Index::create(Memory::open_file(&path, &setup, Open::CREATE).unwrap()).unwrap();
     for key in 0..100 {
         assert_eq!(index.insert(key * 3, key).unwrap(), None);
     }
@@ -78,17 +77,63 @@ fn a_map_in_a_kept_file_is_found() {
     index.into_memory().close().unwrap();
 
     // SAFETY: the last map over it left the words.
-    let found = unsafe { Index::over(KeptMemory::open(&copy, &setup).unwrap()) };
+    let found = unsafe { Index::over(Memory::open_file(&copy, &setup, Open::CREATE).unwrap()) };
     assert_eq!((found.count().unwrap(), found.get(1).unwrap(), found.get(9).unwrap()), (99, None, Some(90)));
     assert_eq!((found.next(10).unwrap(), found.above(15).unwrap()), (Some((15, 5)), Some((18, 6))));
     assert_eq!(found.last(14).unwrap(), Some((9, 90)));
     let keys: Vec<u64> = found.range(6..16).map(|pair| pair.unwrap().0).collect();
     assert_eq!(keys, [6, 9, 15]);
     // SAFETY: as above.
-    let again = unsafe { Index::over(KeptMemory::open(&path, &setup).unwrap()) };
+    let again = unsafe { Index::over(Memory::open_file(&path, &setup, Open::CREATE).unwrap()) };
     assert_eq!((again.count().unwrap(), again.get(1).unwrap()), (100, Some(1)));
     drop((found, again));
     fs::remove_file(copy).unwrap();
+    fs::remove_file(path).unwrap();
+}
+
+#[test]
+fn a_file_has_its_sizes_and_is_made_only_if_that_is_asked() {
+    let path = path("sizes");
+    let setup = Setup::for_words(1000, 4).unwrap();
+    let missing = Memory::open_file(&path, &setup, Open::default());
+    assert!(matches!(missing, Err(Error::System(error)) if error.kind() == std::io::ErrorKind::NotFound));
+    assert!(matches!(Memory::open_file(&path, None, Open::CREATE), Err(Error::System(_))));
+    Memory::open_file(&path, &setup, Open::CREATE).unwrap().store(5, 7).unwrap();
+    let memory = Memory::open_file(&path, None, Open::default()).unwrap();
+    memory.store(5, 8).unwrap();
+    memory.leave().unwrap();
+    let fifo = Setup { policy: Policy::Fifo, pages: 1, shadows: 0, ..setup };
+    let memory = Memory::open_file(&path, &fifo, Open::READ_SIZES).unwrap();
+    assert_eq!(memory.load(5).unwrap(), 7);
+    drop(memory);
+    let readers = [0, 1].map(|_| Memory::open_file(&path, None, Open::READING).unwrap());
+    assert!(readers.iter().all(|it| it.load(999).unwrap() == 0));
+    assert!(matches!(Memory::open_file(&path, &setup, Open::default()), Err(Error::Locked)));
+    assert!(matches!(readers[0].sync(), Err(Error::Off(_))));
+    assert_eq!(Setup::of_file(&path).unwrap().pages, setup.pages);
+    drop(readers);
+    fs::remove_file(path).unwrap();
+}
+
+#[test]
+fn a_transaction_of_a_closure_is_kept_or_undone() {
+    let path = path("closure");
+    let memory = Memory::open_file(&path, &Setup::for_words(1000, 4).unwrap(), Open::CREATE).unwrap();
+    let sum: u64 = memory
+        .transaction(|t| -> Result<u64, Error> {
+            t.put(5, 7)?;
+            t.put(6, 8)?;
+            Ok(t.view(5)? + t.view(6)?)
+        })
+        .unwrap();
+    let refused: Result<(), Error> = memory.transaction(|t| {
+        t.put(5, 9)?;
+        Err(Error::Range)
+    });
+    assert!(matches!(refused, Err(Error::Range)));
+    assert_eq!((sum, memory.load(5).unwrap(), memory.begin().unwrap().slot()), (15, 7, 0));
+    assert!(matches!(memory.cut_now(), Err(Error::OtherBoard)));
+    drop(memory);
     fs::remove_file(path).unwrap();
 }
 
@@ -116,7 +161,7 @@ fn a_file_that_fails_tells_why() {
         return;
     }
     let path = path("limited");
-    let memory = KeptMemory::open(&path, &Setup::for_words(1000, 4).unwrap()).unwrap();
+    let memory = Memory::open_file(&path, &Setup::for_words(1000, 4).unwrap(), Open::CREATE).unwrap();
     let limit = Limit { now: fs::metadata(&path).unwrap().len() + 10_000, most: u64::MAX };
     // SAFETY: the limit is this call's.
     assert_eq!(unsafe { setrlimit(FILE_SIZE, &limit) }, 0);
