@@ -109,6 +109,7 @@ fn a_file_has_its_sizes_and_is_made_only_if_that_is_asked() {
     let readers = [0, 1].map(|_| Memory::open_file(&path, None, Open::READING).unwrap());
     assert!(readers.iter().all(|it| it.load(999).unwrap() == 0));
     assert!(matches!(Memory::open_file(&path, &setup, Open::default()), Err(Error::Locked)));
+    readers[0].store(5, 1).unwrap();
     assert!(matches!(readers[0].sync(), Err(Error::Off(_))));
     assert_eq!(Setup::of_file(&path).unwrap().pages, setup.pages);
     drop(readers);
