@@ -105,7 +105,8 @@ uint32_t envy_open_mapped(envy *m, const char *path, const envy_setup *setup, ui
 uint32_t envy_open_disk(envy *m, const envy_setup *setup, const uint8_t *file, size_t n, const envy_disk *disk, uint32_t flags);
 
 /* Writes the setup that the file of either kind at a path was made with. Policy, part, limit and mark become ENVY_GREEDY, 2,
-   100 and the number of frames. ENVY_DONE; ENVY_SYSTEM, with errno; ENVY_OTHER_JOURNAL; ENVY_OLDER; ENVY_UNFORMATTED. */
+   100 and the number of frames. It neither locks nor audits the file. ENVY_DONE; ENVY_SYSTEM, with errno; ENVY_NO_JOURNAL, it
+   holds neither, as a mapped file that was cut short or grew; ENVY_OTHER_JOURNAL; ENVY_OLDER. */
 uint32_t envy_file_shape(const char *path, envy_setup *setup);
 
 /* The errno of the call on the file after which calls answer ENVY_OFF, or 0: EFBIG also if the process may not make the file so

@@ -77,5 +77,7 @@ envy_served *envy_served_new(void) {
 /* (a journal isn't formatted as regions are, and regions hold no journal) */
 uint32_t envy_file_shape(const char *path, envy_setup *setup) {
     uint32_t code = envy_served_shape(path, setup);
-    return code == ENVY_NO_JOURNAL ? envy_mapping_shape(path, setup) : code;
+    if (code != ENVY_NO_JOURNAL) return code;
+    code = envy_mapping_shape(path, setup);
+    return code == ENVY_UNFORMATTED ? (uint32_t)ENVY_NO_JOURNAL : code;
 }

@@ -335,7 +335,7 @@ static void shapes(void) {
     WANT(errno, ENOENT);
     WANT(envy_file_shape(".", &found), ENVY_SYSTEM);
     make("shaped", "", 0644);
-    WANT(envy_file_shape("shaped", &found), ENVY_UNFORMATTED);
+    WANT(envy_file_shape("shaped", &found), ENVY_NO_JOURNAL);
     WANT(unlink("shaped"), 0);
     WANT(envy_open_file(&f, "shaped", &setup, ENVY_CREATE), ENVY_DONE);
     WANT(found.segments, 1);
@@ -356,12 +356,12 @@ static void shapes(void) {
     WANT(pwrite(descriptor, "\t", 1, 8), 1);
     WANT(envy_file_shape("shaped", &found), ENVY_OTHER_JOURNAL);
     WANT(pwrite(descriptor, "\2\0", 2, 8), 2);
-    WANT(envy_file_shape("shaped", &found), ENVY_UNFORMATTED);
+    WANT(envy_file_shape("shaped", &found), ENVY_NO_JOURNAL);
     WANT(ftruncate(descriptor, 32), 0);
-    WANT(envy_file_shape("shaped", &found), ENVY_UNFORMATTED);
+    WANT(envy_file_shape("shaped", &found), ENVY_NO_JOURNAL);
     WANT(close(descriptor), 0);
     make("shaped", "a text of another kind that is longer than a head", 0644);
-    WANT(envy_file_shape("shaped", &found), ENVY_UNFORMATTED);
+    WANT(envy_file_shape("shaped", &found), ENVY_NO_JOURNAL);
 }
 
 /* What isn't asked for needs no place. */

@@ -53,7 +53,7 @@ impl Setup {
     ///
     /// # Errors
     ///
-    /// `Unformatted`, `Older`, `OtherJournal` or `System`.
+    /// `NoJournal`: it holds no memory; `Older`, `OtherJournal` or `System`.
     pub fn of_file(path: impl AsRef<Path>) -> Result<Setup, Error> {
         let path = c_path(path.as_ref())?;
         let mut found = sys::Setup::default();

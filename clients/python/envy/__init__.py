@@ -11,7 +11,7 @@
 [100, 200]
 >>> m.close()
 
-It calls the library `libenvy_kept.so.0`, whose contracts are proved; this package is tested. docs/CLIENTS.md and
+It calls the library `libenvy.so.0`, whose contracts are proved; this package is tested. docs/CLIENTS.md and
 docs/LIBRARY.md say what is promised of files."""
 
 from .errors import (
