@@ -40,7 +40,7 @@ static uint64_t together = 1;
 /* ---- this library */
 
 static envy map = ENVY_INIT;
-/* the whole array, and the open transaction of it; a change alone is a call of envy_index.h */
+/* the whole array, and the open transaction of it; a change alone is a call of the map of the whole array */
 static envy_map whole;
 static uint32_t slot;
 

@@ -177,7 +177,7 @@ static void setups(void) {
         envy_sizes sizes = {1, 2, 3};
         WANT(envy_region_sizes(&bad[i], &sizes), code[i]);
         WANT(sizes.rows == 1 && sizes.words == 2 && sizes.erases == 3, 1);
-        /* envy_file_open asks for the sizes first, so the regions are given here */
+        /* envy_open_mapped asks for the sizes first, so the regions are given here */
         envy_rows flash = {(uint64_t (*)[32])changed, SEGMENTS * ROWS};
         envy_words sram = {word_at(0), 559}, erases = {word_at(559), SEGMENTS};
         WANT(envy_open_regions(&map, &bad[i], flash, sram, erases), code[i]);
@@ -385,9 +385,9 @@ static void shapes(void) {
     WANT(envy_sram_shape(word_at(0), 5, &found), ENVY_UNFORMATTED);
     memcpy(changed, whole, bytes);
     write_file(changed, bytes - 8);
-    WANT(envy_file_shape(path, &found), ENVY_UNFORMATTED);
+    WANT(envy_file_shape(path, &found), ENVY_NO_JOURNAL);
     write_file(changed, 0);
-    WANT(envy_file_shape(path, &found), ENVY_UNFORMATTED);
+    WANT(envy_file_shape(path, &found), ENVY_NO_JOURNAL);
     WANT(envy_file_shape("/nowhere/at/all", &found), ENVY_SYSTEM);
     WANT(memcmp(&found, &none, sizeof found), 0);
 }

@@ -1,4 +1,0 @@
-use Rattle.envy_kept.proofs.map_calls.envy_kept_map_insert.Goals as goal
-
-pub map_insert-code-requires : goal.map_insert-code-requires
-map_insert-code-requires c = rw c.lend-place.ensures.slot c.requires.map

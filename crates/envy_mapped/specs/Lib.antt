@@ -1,4 +1,0 @@
-pub mod Held
-pub mod Opening
-pub mod Regions
-pub mod Steady

@@ -1,3 +1,0 @@
-pub mod Opened
-pub mod Rows
-pub mod Saved
