@@ -39,7 +39,7 @@ from .memory import Counts, Did, Memory, open
 from .sizes import Setup, setup_for, shape
 from .transaction import Transaction
 
-__version__ = "0.4.0"
+__version__ = "0.5.0"
 
 __all__ = [
     "AbsentError", "AddressError", "ClosedError", "Counts", "DeniedError", "Did", "EnvyError", "FileError", "ForkedError",
