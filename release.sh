@@ -12,7 +12,7 @@
 set -eu
 cd "$(dirname "$0")"
 version=$(cat VERSION)
-libraries='envy_mapped envy_sim envy_kept envy_parted'
+libraries='envy_library envy_parted'
 from=
 case ${1-} in
 '') ;;
@@ -59,8 +59,7 @@ archives() {
     local processor=$1 made=$work/$1 at=$from/$1
     shift
     mkdir -p "$root/lib/$processor"
-    make -s -C c OUT="$made" MAPPED="$at/libenvy_mapped.a" MEMORY="$at/libenvy_sim.a" KEPT="$at/libenvy_kept.a" \
-        PARTED="$at/libenvy_parted.a" "$@" all
+    make -s -C c OUT="$made" LIBRARY="$at/libenvy_library.a" PARTED="$at/libenvy_parted.a" "$@" all
     cp -P "$made"/*.a "$made"/*.so* "$root/lib/$processor"
 }
 
@@ -86,8 +85,8 @@ package() {
     doc=$deb/usr/share/doc/envy
     mkdir -p "$deb/DEBIAN" "$deb/usr/bin" "$deb/usr/lib/envy" "$deb/usr/share/man/man1" "$doc" \
         "$deb/usr/share/bash-completion/completions" "$deb/usr/share/envy"
-    make -s -C c OUT="$work/x86_64" MAPPED="$from/x86_64/libenvy_mapped.a" MEMORY="$from/x86_64/libenvy_sim.a" \
-        KEPT="$from/x86_64/libenvy_kept.a" PARTED="$from/x86_64/libenvy_parted.a" DESTDIR="$deb" PREFIX=/usr install
+    make -s -C c OUT="$work/x86_64" LIBRARY="$from/x86_64/libenvy_library.a" PARTED="$from/x86_64/libenvy_parted.a" \
+        DESTDIR="$deb" PREFIX=/usr install
     clients DESTDIR="$deb" PREFIX=/usr NBDKIT_PLUGINS=/usr/lib/x86_64-linux-gnu/nbdkit/plugins install
     cp -r "$root/envy" "$root/program" "$root/words" "$root/VERSION" "$root/README.md" "$root/examples" "$deb/usr/lib/envy"
     ln -s ../lib/envy/envy "$deb/usr/bin/envy"
@@ -123,7 +122,7 @@ CONTROL
 [ -n "$from" ] || built
 archives x86_64
 clients all
-for file in envyvfs.so envyvfs_mapped.so libenvyvfs.a envy.so envy_mapped.so; do
+for file in envyvfs.so envyvfs_mapped.so libenvyvfs.a envy.so envy-mapped.so; do
     [ ! -e "$work/clients/$file" ] || cp "$work/clients/$file" "$root/lib/x86_64"
 done
 [ -e "$root/lib/x86_64/envyvfs.so" ] || echo "release: no VFS of SQLite: libsqlite3-dev isn't here" >&2

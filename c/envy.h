@@ -1,6 +1,6 @@
 /* A memory for programs: a plain array of 64-bit words, with transactions and ordered maps. What it stands over is said
    when it is opened, and the calls are the same from then on:
-   - a file that outlives the process and the machine: envy_open_file, or envy_open_port over calls of the program's own;
+   - a file that outlives the process and the machine: envy_open_file, or envy_open_disk over calls of the program's own;
    - a file that the process maps: envy_open_mapped;
    - regions of memory that the program gives: envy_format_regions, envy_open_regions;
    - a board in memory whose power and flash operations can be made to fail: envy_open_sim, envy_restore.
@@ -21,8 +21,8 @@
 
    What the program promises, and nothing checks:
    - It makes a handle with ENVY_INIT and calls envy_new on it at most once. Until that answered ENVY_DONE every other call
-     answers ENVY_EMPTY, except envy_open_file and envy_open_mapped, which call it by themselves. It neither copies nor changes
-     a handle.
+     answers ENVY_EMPTY, except envy_open_file, envy_open_mapped and envy_open_disk, which call it by themselves. It neither
+     copies nor changes a handle.
    - One call at a time uses a handle. It may use it from any thread if it orders the calls itself.
    - Every pointer is to memory that is there, aligned, of the size that is said, and in no two arguments at once. None is
      NULL, also not that of no words, except `holder`, `done`, `before` and `rule`, if the program doesn't ask for them.
@@ -32,9 +32,7 @@
 
    If a call answers anything but ENVY_DONE, what its pointers point to is as before, except for ENVY_HELD and *done. If
    several answers would be right, it is the first of them in the order in which the call names them, except that ENVY_OFF
-   goes before all but ENVY_EMPTY, and that ENVY_NO_MEMORY may come in place of an ENVY_BROKEN_*.
-
-   Not together with envy_index.h and envy_map.h, whose calls have the same names and other handles. */
+   goes before all but ENVY_EMPTY, and that ENVY_NO_MEMORY may come in place of an ENVY_BROKEN_*. */
 #ifndef ENVY_H
 #define ENVY_H
 
@@ -64,39 +62,62 @@ uint32_t envy_new(envy *m);
    empty place, ENVY_DONE. The place may be opened again. */
 uint32_t envy_close(envy *m);
 
+/* The same without a sync: a file opens as of the last one. Of a mapped file it is envy_close. */
+uint32_t envy_leave(envy *m);
+
 /* --- Files --- */
 
 /* How a file is opened: the sum of these, or 0. */
 enum envy_open_flag {
-    ENVY_CREATE = 1,   /* if there is no file, one is made, with a memory of zeros */
-    ENVY_BYTEWISE = 2, /* the program states that file system and disk write byte by byte: then a sync is one of the file */
-    ENVY_READING = 4   /* for reading alone, by any number of processes: nothing is written, made or removed */
+    ENVY_CREATE = 1,     /* if there is no file, one is made, with a memory of zeros */
+    ENVY_BYTEWISE = 2,   /* the program states that file system and disk write byte by byte: then a sync is one of the file */
+    ENVY_READING = 4,    /* for reading alone, by any number of processes: nothing is written, made or removed */
+    ENVY_COMPACT = 8,    /* the file is compacted once it is open, if a second file can be made */
+    ENVY_READ_SIZES = 16 /* the sizes are those of the file, if it has any; of the setup policy, part, limit and mark count */
 };
 
-/* Opens the memory that is kept in the file at a path, and locks it. The file is read whole, replayed and audited; nothing in
-   it is trusted. If the setup is NULL, it is the one that the file was made with. In an empty file a memory of zeros is made.
-   No descriptor of it is one of a standard stream. Beside it a second file may come to be, at the path and ".envy-new".
+/* Opens the memory that is kept in the file at a path, and locks it. The file is brought to the disk, read whole from there,
+   replayed and audited; nothing in it is trusted. In an empty file a memory of zeros is made. If the setup is NULL or one of
+   zeros, the sizes are those of the file.
+   No descriptor of it is one of a standard stream: a standard stream that is closed is opened on /dev/null, and its use fails
+   there as before. Beside the file a second one may come to be, at the path and ".envy-new"; if none can be made, that is
+   ENVY_SYSTEM. A new file has the access rights that the process's umask leaves.
+   Under ENVY_READING loads and looks answer as of the last sync. What is stored is seen until the memory is closed. The first
+   call that would write to the file, as envy_sync, is ENVY_OFF with EROFS at envy_file_error.
    ENVY_DONE; ENVY_SYSTEM, with errno, as ENOENT if there is no file; ENVY_LOCKED; ENVY_TOO_MANY; or what envy_new,
-   envy_file_shape and envy_open_port answer. Refused, the place holds none; an empty file that was made stays. */
+   envy_file_shape and envy_open_port answer. Refused, the place holds none; an empty file that was made stays, unless no second
+   file can be made. */
 uint32_t envy_open_file(envy *m, const char *path, const envy_setup *setup, uint32_t flags);
 
 /* Opens the memory in the file at a path, which the process maps, and locks it. Its words outlive the process as soon as a
-   call has ended, and the machine from an envy_sync on. Of the flags ENVY_CREATE alone is looked at: a new file is there
-   formatted or not at all. If the setup is NULL, it is the one that the file was made with.
+   call has ended, and the machine from an envy_sync on. Of the flags ENVY_CREATE and ENVY_READ_SIZES are looked at. A new file
+   is there formatted or not at all. If the setup is NULL or one of zeros, the sizes are those of the file.
    ENVY_DONE; ENVY_SYSTEM, with errno; ENVY_LOCKED; or what envy_new, envy_file_shape, envy_format_regions and
    envy_open_regions answer. Refused, the file is as before, and the place holds none. */
 uint32_t envy_open_mapped(envy *m, const char *path, const envy_setup *setup, uint32_t flags);
 
+/* Opens the memory in a file that the program serves by six calls of its own, or makes one of zeros in a file without bytes.
+   The program has opened the file, kept others out of it, brought it to the disk, had the system drop what it held of it (as by
+   posix_fadvise with POSIX_FADV_DONTNEED), and then read it whole: `file` are its n bytes, which don't change while the call
+   lasts. The system reports a failed write once, and takes what it holds for written then; so what it holds is dropped. Of the
+   flags ENVY_BYTEWISE is looked at. The disk stays where it is until envy_close, which makes no call of it.
+   ENVY_DONE; ENVY_TOO_MANY; or what envy_new and envy_open_port answer. Refused, the place holds none. */
+uint32_t envy_open_disk(envy *m, const envy_setup *setup, const uint8_t *file, size_t n, const envy_disk *disk, uint32_t flags);
+
 /* Writes the setup that the file of either kind at a path was made with. Policy, part, limit and mark become ENVY_GREEDY, 2,
-   100 and the number of frames. ENVY_DONE; ENVY_SYSTEM, with errno; ENVY_OTHER_JOURNAL; ENVY_OLDER; ENVY_UNFORMATTED. */
+   100 and the number of frames. It neither locks nor audits the file. ENVY_DONE; ENVY_SYSTEM, with errno; ENVY_NO_JOURNAL, it
+   holds neither, as a mapped file that was cut short or grew; ENVY_OTHER_JOURNAL; ENVY_OLDER. */
 uint32_t envy_file_shape(const char *path, envy_setup *setup);
 
-/* The errno of the call on the file after which calls answer ENVY_OFF, or 0. */
+/* The errno of the call on the file after which calls answer ENVY_OFF, or 0: EFBIG also if the process may not make the file so
+   long, EPERM in a process that was forked off. Such a process has no file: each call that would write to it is ENVY_OFF. */
 int envy_file_error(const envy *m);
 
-/* The same over a file that the program serves itself: `file` are its n bytes, all of them on the disk, which don't change
-   while the call lasts, and `port` is what envy_disk_open gave for it. If `bytewise` isn't 0, the program states that the
-   file is written byte by byte. An empty file holds no journal yet.
+/* How many bytes the file of a memory has that was opened by its path, or 0. */
+uint64_t envy_file_bytes(const envy *m);
+
+/* The call under envy_open_file and envy_open_disk: `port` is what envy_disk_open gave for the file, and if `bytewise` isn't 0,
+   the program states that the file is written byte by byte. An empty file holds no journal yet.
    ENVY_DONE; ENVY_EMPTY; ENVY_OPEN; ENVY_POLICY, ENVY_SETUP_*; ENVY_NO_JOURNAL; ENVY_OTHER_JOURNAL; ENVY_DAMAGED;
    ENVY_OTHER_SHAPE; ENVY_NO_MEMORY; ENVY_OFF if the file failed. Refused, the place is as before. */
 uint32_t envy_open_port(envy *m, const envy_setup *setup, const uint8_t *file, size_t n, int32_t port, uint32_t bytewise);
@@ -223,8 +244,12 @@ uint32_t envy_tick(envy *m, uint32_t *did);
 /* Writes the counters. ENVY_DONE, ENVY_EMPTY. */
 uint32_t envy_counters(envy *m, envy_counts *counts);
 
-/* Writes how many segments in reserve are retired, and how many are left. ENVY_DONE, ENVY_EMPTY, ENVY_OFF. */
+/* Writes how many segments in reserve are retired, and how many are left; together they are the setup's reserves. ENVY_DONE,
+   ENVY_EMPTY, ENVY_OFF. */
 uint32_t envy_worn(envy *m, uint32_t *retired, uint32_t *left);
+
+/* Writes what the memory did and holds, in a time that grows with its rows. ENVY_DONE, ENVY_EMPTY, ENVY_OFF. */
+uint32_t envy_stat(envy *m, envy_stats *stats);
 
 /* --- What the board holds, for programs that draw it. None of these is an access to a page, and nothing changes ---
 

@@ -1,4 +1,4 @@
-/* What envy.h, envy_sim.h, envy_mapped.h, envy_parted.h and envy_kept.h share: the numbers of answers, the setup of a memory, and its counters. */
+/* What envy.h and envy_parted.h share: the numbers of answers, the setup of a memory, and its counters. */
 #ifndef ENVY_CODES_H
 #define ENVY_CODES_H
 
@@ -13,7 +13,7 @@ extern "C" {
 enum envy_code {
     ENVY_DONE = 0,
     ENVY_EMPTY = 1,       /* the place holds no memory */
-    ENVY_OFF = 2,         /* power is off, or failed in the call; never over regions. Of envy_kept.h: the file failed */
+    ENVY_OFF = 2,         /* power is off, or failed in the call; never over regions. Of a file: it failed */
     ENVY_RANGE = 3,       /* the address lies past the last page */
     ENVY_HELD = 4,        /* the transaction of another slot owns the page */
     ENVY_FULL = 5,        /* the page has no owner, and no more pages may be owned */
@@ -95,13 +95,11 @@ enum envy_code {
     ENVY_PAST = 66,          /* one of them reaches past the last address */
     ENVY_OVERLAP = 67,       /* they overlap */
 
-    /* files that are kept by envy_kept.h */
+    /* files that a memory is kept in */
     ENVY_NO_JOURNAL = 72,     /* the file holds something else, or a journal of no memory */
     ENVY_OTHER_JOURNAL = 73,  /* the file is a journal of a version that isn't known here */
     ENVY_DAMAGED = 74,        /* the file is a journal that no crash leaves so: something else changed it */
     ENVY_APPENDED = 75,       /* all is on the disk, as after a sync, but the second file of a compaction failed */
-
-    /* of envy.h */
     ENVY_OTHER_BOARD = 76     /* what the memory stands over can't do this */
 };
 
@@ -109,7 +107,7 @@ enum envy_code {
 enum envy_file_code {
     ENVY_SYSTEM = 1000, /* the system refused a call, and errno says why */
     ENVY_LOCKED = 1001, /* the file is open already, here or in another process */
-    ENVY_TOO_MANY = 1002 /* ENVY_DISKS files of envy_kept_file.h are open already */
+    ENVY_TOO_MANY = 1002 /* ENVY_DISKS files are open already */
 };
 
 /* How the cleaner chooses what to clean. */

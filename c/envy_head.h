@@ -1,4 +1,4 @@
-/* The head of a journal, which the file of envy_kept_file.h begins with. It is for the C beside the libraries, and isn't
+/* The head of a journal, which a file begins with that a memory is kept in. It is for the C beside the libraries, and isn't
    installed. */
 #ifndef ENVY_HEAD_H
 #define ENVY_HEAD_H

@@ -1,22 +1,21 @@
-/* The names of before of the calls of envy.h: for a program over envy_kept.h, envy_kept_file.h, envy_mapped.h, envy_file.h,
-   envy_sim.h, or what they have of maps. Include it before these, which declare nothing then, or give it to the compiler by
-   `-include envy_old.h`, and link libenvy.a. */
+/* The earlier names of what envy.h has, for one version: a program that includes envy_kept.h, envy_kept_file.h, envy_mapped.h,
+   envy_file.h, envy_sim.h or one of their maps includes this, and links libenvy. */
 #ifndef ENVY_OLD_H
 #define ENVY_OLD_H
 
-#define ENVY_SIM_H
-#define ENVY_KEPT_INDEX_H
-#define ENVY_KEPT_MAP_H
-#define ENVY_INDEX_H
-#define ENVY_MAP_H
-#include "envy_served.h"
 #include "envy_mapping.h"
+#include "envy_served.h"
 
 /* a memory in a file */
-#undef envy_kept_sync
-#undef envy_kept_close
-#define envy_kept_sync envy_sync
+typedef envy envy_kept;
+typedef envy_served envy_kept_file;
+#define ENVY_KEPT_INIT ENVY_INIT
+#define ENVY_KEPT_FILE_INIT ENVY_SERVED_INIT
+#define envy_kept_size envy_board_size
+#define envy_kept_new envy_new
+#define envy_kept_cut envy_journal_cut
 #define envy_kept_close (void)envy_close
+#define envy_kept_sync envy_sync
 #define envy_kept_compact envy_compact
 #define envy_kept_powered envy_powered
 #define envy_kept_load envy_load
@@ -54,10 +53,45 @@
 #define envy_kept_map_scan envy_map_scan
 #define envy_kept_map_scan_down envy_map_scan_down
 
-/* a memory over regions */
-#undef envy_mapped_close
+#define envy_kept_leave_file envy_served_leave
+#define envy_kept_close_file envy_served_close
+#define envy_kept_file_shape envy_served_shape
+#define envy_kept_file_new envy_served_new
+#define envy_kept_file_error envy_served_error
+
+static inline uint32_t envy_kept_open(envy *m, const envy_setup *setup, const uint8_t *file, size_t n, int32_t port) {
+    return envy_open_port(m, setup, file, n, port, 0);
+}
+
+static inline uint32_t envy_kept_open_bytewise(envy *m, const envy_setup *setup, const uint8_t *file, size_t n, int32_t port) {
+    return envy_open_port(m, setup, file, n, port, 1);
+}
+
+static inline uint32_t envy_kept_open_file(envy_served *f, const char *path, const envy_setup *setup) {
+    return envy_served_open(f, path, setup, ENVY_CREATE);
+}
+
+static inline uint32_t envy_kept_open_file_bytewise(envy_served *f, const char *path, const envy_setup *setup) {
+    return envy_served_open(f, path, setup, ENVY_CREATE | ENVY_BYTEWISE);
+}
+
+static inline uint32_t envy_kept_open_file_reading(envy_served *f, const char *path, const envy_setup *setup) {
+    return envy_served_open(f, path, setup, ENVY_READING);
+}
+
+/* a memory over regions, and in a file that is mapped */
+typedef envy envy_mapped;
+typedef envy_mapping envy_file;
+#define ENVY_MAPPED_INIT ENVY_INIT
+#define ENVY_NO_MAPPED ENVY_INIT
+#define ENVY_FILE_INIT ENVY_MAPPING_INIT
+#define ENVY_NO_FILE ENVY_MAPPING_INIT
+#define envy_mapped_sizes envy_region_sizes
+#define envy_mapped_shape envy_sram_shape
+#define envy_mapped_new envy_new
+#define envy_mapped_format envy_format_regions
+#define envy_mapped_attach envy_open_regions
 #define envy_mapped_close (void)envy_close
-#define ENVY_NO_MAPPED ENVY_MAPPED_INIT
 #define envy_mapped_load envy_load
 #define envy_mapped_look envy_look
 #define envy_mapped_read envy_read
@@ -72,6 +106,14 @@
 #define envy_mapped_tick envy_tick
 #define envy_mapped_counts envy_counters
 #define envy_mapped_worn envy_worn
+/* (that of envy.h knows files of both kinds) */
+#define envy_file_shape envy_mapping_shape
+#define envy_file_sync envy_mapping_sync
+#define envy_file_close envy_mapping_close
+
+static inline uint32_t envy_file_open(envy_mapping *f, const char *path, const envy_setup *setup) {
+    return envy_mapping_open(f, path, setup, ENVY_CREATE);
+}
 
 /* a memory over a board that can be made to fail */
 typedef envy envy_sim;

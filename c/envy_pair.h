@@ -1,4 +1,4 @@
-/* What crosses by the calls of a map: envy_index.h, envy_kept_index.h, envy_map.h, envy_kept_map.h. */
+/* What crosses by the calls of maps of envy.h. */
 #ifndef ENVY_PAIR_H
 #define ENVY_PAIR_H
 

@@ -1,25 +1,10 @@
-/* In the archive of kept files, built with ENVY_OF_KEPT, it asks that library for the rules. */
 #include "envy_setup.h"
-#ifdef ENVY_OF_KEPT
-#include "envy_kept.h"
-#else
-#include "envy_mapped.h"
-#endif
+#include "envy.h"
 
 enum { PAGE_WORDS = 32, MOST_ROWS = 16777216, MOST_SEGMENT = 65536 };
 
 static uint32_t between(uint64_t least, uint64_t wanted, uint64_t most) {
     return (uint32_t)(wanted < least ? least : wanted > most ? most : wanted);
-}
-
-static uint32_t checked(const envy_setup *setup) {
-#ifdef ENVY_OF_KEPT
-    uint64_t bytes;
-    return envy_kept_size(setup, &bytes);
-#else
-    envy_sizes sizes;
-    return envy_mapped_sizes(setup, &sizes);
-#endif
 }
 
 uint32_t envy_setup_for(uint64_t words, uint32_t owned_pages, envy_setup *setup) {
@@ -50,7 +35,8 @@ uint32_t envy_setup_for(uint64_t words, uint32_t owned_pages, envy_setup *setup)
     };
     /* a tick writes pages back from three quarters of the frames on */
     chosen.mark = chosen.frames - chosen.frames / 4;
-    uint32_t code = checked(&chosen);
+    envy_sizes sizes;
+    uint32_t code = envy_region_sizes(&chosen, &sizes);
     if (code == ENVY_DONE) *setup = chosen;
     return code;
 }

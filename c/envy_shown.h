@@ -1,8 +1,8 @@
-/* What crosses by the calls that show what the board of a memory holds: of envy.h and envy_sim.h. */
+/* What crosses by the calls of envy.h that show what the board of a memory holds. */
 #ifndef ENVY_SHOWN_H
 #define ENVY_SHOWN_H
 
-#include <stdint.h>
+#include "envy_codes.h"
 
 #ifdef __cplusplus
 extern "C" {
@@ -40,6 +40,18 @@ typedef struct envy_job {
     uint32_t kind;    /* 0: none, 1: kept rows are copied to the spare, 2: references go to the copies, 3: the spare is erased */
     uint32_t segment; /* whose kept rows, or references; else 0 */
 } envy_job;
+
+/* What a memory did and holds. */
+typedef struct envy_stats {
+    envy_counts counts;  /* what was done since it was formatted or opened */
+    uint64_t rows[4];    /* how many there are of each envy_row_kind */
+    uint32_t segments;
+    uint32_t retired;    /* segments in reserve that stand in for worn ones */
+    uint32_t reserves;   /* those that are left */
+    uint64_t least_wear; /* of the segment that was erased least, and most */
+    uint64_t most_wear;
+    uint64_t file_bytes; /* of the file that it was opened from by its path, else 0 */
+} envy_stats;
 
 #ifdef __cplusplus
 }

@@ -1,4 +1,4 @@
-/* Texts for the numbers of envy_codes.h and envy_file.h, and the version. No memory is taken. */
+/* Texts for the numbers of envy_codes.h, and the version. No memory is taken. */
 #ifndef ENVY_TEXT_H
 #define ENVY_TEXT_H
 
@@ -9,7 +9,7 @@ extern "C" {
 #endif
 
 /* The version of the headers that a program was compiled with. */
-#define ENVY_VERSION "0.4.0"
+#define ENVY_VERSION "0.5.0"
 
 /* The version of the code that a program is linked with. */
 const char *envy_version(void);

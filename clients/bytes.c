@@ -4,11 +4,9 @@
 #include "envy_text.h"
 #include "known.h"
 #include <errno.h>
-#include <fcntl.h>
 #include <stdlib.h>
 #include <string.h>
 #include <sys/stat.h>
-#include <unistd.h>
 
 #if __BYTE_ORDER__ != __ORDER_LITTLE_ENDIAN__
 #error "bytes are taken as they lie in words: this needs a processor that has the lowest byte first"
@@ -57,62 +55,41 @@ uint64_t bytes_largest(const bytes_options *options) {
     return fits;
 }
 
-#ifdef ENVY_CLIENT_MAPPED
-static uint32_t shape_of(const char *path, envy_setup *setup) { return envy_file_shape(path, setup); }
-
-static uint32_t open_file(bytes *b, const char *path, int bytewise) {
-    (void)bytewise;
-    return envy_file_open(b->file, path, &b->setup);
-}
-#else
-static uint32_t number_at(const uint8_t *bytes) {
-    return bytes[0] | (uint32_t)bytes[1] << 8 | (uint32_t)bytes[2] << 16 | (uint32_t)bytes[3] << 24;
-}
-
-/* The shape that the head of a durable file tells: a mark, a version, and six sizes, each of 4 bytes with the lowest first.
-   No call of the library tells it. Whether the version is known, and the file whole, is for the opening to say. */
 static uint32_t shape_of(const char *path, envy_setup *setup) {
-    static const char mark[] = "\1eNVyJNL";
-    enum { MARK_BYTES = sizeof mark - 1, SIZES_AT = MARK_BYTES + 1, SIZE_COUNT = 6, SIZE_BYTES = 4 };
-    uint8_t head[SIZES_AT + SIZE_COUNT * SIZE_BYTES];
-    uint32_t sizes[SIZE_COUNT];
-    int descriptor = open(path, O_RDONLY | O_CLOEXEC);
-    if (descriptor < 0) return ENVY_SYSTEM;
-    ssize_t got = pread(descriptor, head, sizeof head, 0);
-    close(descriptor);
-    if (got < 0) return ENVY_SYSTEM;
-    if (got != sizeof head || memcmp(head, mark, MARK_BYTES)) return ENVY_NO_JOURNAL;
-    for (int i = 0; i < SIZE_COUNT; i++) sizes[i] = number_at(head + SIZES_AT + i * SIZE_BYTES);
-    *setup = (envy_setup){.segments = sizes[0], .rows = sizes[1], .pages = sizes[2], .shadows = sizes[3], .frames = sizes[4],
-                          .entries = sizes[5], .policy = ENVY_GREEDY, .part = 2, .limit = 100, .mark = mark_of(sizes[4])};
-    return ENVY_DONE;
+    uint32_t code = envy_file_shape(path, setup);
+    if (!code) setup->mark = mark_of(setup->frames);
+    return code;
 }
 
 static uint32_t open_file(bytes *b, const char *path, int bytewise) {
-    return (bytewise ? envy_kept_open_file_bytewise : envy_kept_open_file)(b->file, path, &b->setup);
-}
+#ifdef ENVY_CLIENT_MAPPED
+    (void)bytewise;
+    return envy_open_mapped(b->memory, path, &b->setup, ENVY_CREATE);
+#else
+    return envy_open_file(b->memory, path, &b->setup, ENVY_CREATE | (bytewise ? ENVY_BYTEWISE : 0));
 #endif
+}
 
-/* Places of closed files. A memory's place in the library stays until the process ends, so it serves again. */
+/* Handles of closed files. A handle's place in the library stays until the process ends, so it serves again. */
 typedef struct place {
-    array_file file; /* first, so that a file's place is known */
+    envy memory; /* first, so that a memory's place is known */
     struct place *next;
 } place;
 static place *spare;
 
-static array_file *take_place(void) {
+static envy *take_place(void) {
     place *p = spare;
     if (p) {
         spare = p->next;
-        return &p->file;
+        return &p->memory;
     }
     if (!(p = malloc(sizeof *p))) return NULL;
-    p->file = (array_file)ARRAY_FILE_INIT;
-    return &p->file;
+    p->memory = (envy)ENVY_INIT;
+    return &p->memory;
 }
 
-static void give_place(array_file *file) {
-    place *p = (place *)file;
+static void give_place(envy *memory) {
+    place *p = (place *)memory;
     p->next = spare;
     spare = p;
 }
@@ -124,7 +101,7 @@ static uint32_t is_blank(bytes *b, int *blank) {
     *blank = 1;
     for (uint64_t a = 0; a < all && *blank; a += PIECE_WORDS) {
         size_t n = all - a < PIECE_WORDS ? (size_t)(all - a) : PIECE_WORDS;
-        uint32_t code = MEMORY_CALL(read)(&b->file->memory, (uint32_t)a, words, n);
+        uint32_t code = envy_read(b->memory, (uint32_t)a, words, n);
         if (code) return code;
         *blank = !memcmp(words, zeros, n * WORD_BYTES);
     }
@@ -136,14 +113,14 @@ static uint32_t claim(bytes *b, uint64_t kind) {
     uint64_t header[HEADER_WORDS];
     uint32_t holder;
     int blank;
-    uint32_t code = MEMORY_CALL(read)(&b->file->memory, 0, header, HEADER_WORDS);
+    uint32_t code = envy_read(b->memory, 0, header, HEADER_WORDS);
     if (code) return code;
     b->length = header[LENGTH_WORD];
     if (header[KIND_WORD] == kind) return b->length <= b->room ? ENVY_DONE : (uint32_t)BYTES_OTHER_KIND;
     if (header[KIND_WORD]) return BYTES_OTHER_KIND;
     if ((code = is_blank(b, &blank))) return code;
     if (!blank) return BYTES_OTHER_KIND;
-    code = MEMORY_CALL(store)(&b->file->memory, KIND_WORD, kind, &holder);
+    code = envy_store(b->memory, KIND_WORD, kind, &holder);
     return code ? code : bytes_sync(b);
 }
 
@@ -153,12 +130,12 @@ uint32_t bytes_open(bytes *b, const char *path, uint64_t kind, const bytes_optio
     int is_old = !stat(path, &found) && found.st_size;
     uint32_t code = is_old ? shape_of(path, &b->setup) : setup_for(options, &b->setup);
     if (code) return code;
-    if (!(b->file = take_place())) return ENVY_NO_MEMORY;
+    if (!(b->memory = take_place())) return ENVY_NO_MEMORY;
     if (!(b->known = known_new())) code = ENVY_NO_MEMORY;
     if (!code) code = open_file(b, path, options->bytewise);
     if (code) {
         free(b->known);
-        give_place(b->file);
+        give_place(b->memory);
         return code;
     }
     b->room = (uint64_t)b->setup.pages * PAGE_BYTES - PAGE_BYTES;
@@ -172,13 +149,8 @@ uint32_t bytes_close(bytes *b, int is_kept) {
     free(b->known);
     b->known = NULL;
     batch_forget(b);
-#ifdef ENVY_CLIENT_MAPPED
-    (void)is_kept;
-    uint32_t code = envy_file_close(b->file);
-#else
-    uint32_t code = (is_kept ? envy_kept_close_file : envy_kept_leave_file)(b->file);
-#endif
-    give_place(b->file);
+    uint32_t code = is_kept ? envy_close(b->memory) : envy_leave(b->memory);
+    give_place(b->memory);
     if (!code) errno = why;
     return code;
 }
@@ -189,7 +161,7 @@ static uint32_t word_at(uint64_t at) { return HEADER_WORDS + (uint32_t)(at / WOR
 
 static uint32_t read_words(bytes *b, uint64_t at, uint64_t *words, size_t n) {
     if (!n) return ENVY_DONE;
-    uint32_t code = MEMORY_CALL(read)(&b->file->memory, word_at(at), words, n);
+    uint32_t code = envy_read(b->memory, word_at(at), words, n);
     if (code) return code;
     b->counts.words_read += n;
     known_note(b->known, at, words, n);
@@ -296,9 +268,5 @@ uint32_t bytes_set_length(bytes *b, uint64_t length) {
 
 uint32_t bytes_sync(bytes *b) {
     b->counts.syncs++;
-#ifdef ENVY_CLIENT_MAPPED
-    return envy_file_sync(b->file);
-#else
-    return envy_kept_sync(&b->file->memory);
-#endif
+    return envy_sync(b->memory);
 }

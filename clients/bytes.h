@@ -2,9 +2,9 @@
    word 32 + b / 8 of the array, the lowest byte first; the first page of 32 words is a header, whose word 0 names the
    client and whose word 1 is a length that the client keeps.
 
-   Built as it is, an array is a durable file (libenvy_kept.a): a sync brings all that was written to the disk, as one. With
-   ENVY_CLIENT_MAPPED it is a mapped file (libenvy_mapped.a): a write outlives the process at once, word by word, and the
-   writes of a batch as one.
+   Built as it is, an array is a durable file: a sync brings all that was written to the disk, as one. With
+   ENVY_CLIENT_MAPPED it is a mapped file: a write outlives the process at once, word by word, and the writes of a batch as
+   one.
 
    One call at a time uses an array, and one at a time opens or closes one: callers hold a lock. */
 #ifndef ENVY_CLIENT_BYTES_H
@@ -12,17 +12,7 @@
 
 #include <stddef.h>
 #include <stdint.h>
-#ifdef ENVY_CLIENT_MAPPED
-#include "envy_file.h"
-#define MEMORY_CALL(name) envy_mapped_##name
-typedef envy_file array_file;
-#define ARRAY_FILE_INIT ENVY_FILE_INIT
-#else
-#include "envy_kept_file.h"
-#define MEMORY_CALL(name) envy_kept_##name
-typedef envy_kept_file array_file;
-#define ARRAY_FILE_INIT ENVY_KEPT_FILE_INIT
-#endif
+#include "envy.h"
 
 enum { WORD_BYTES = 8, HEADER_WORDS = 32 };
 
@@ -39,7 +29,7 @@ typedef struct bytes_options {
     uint64_t size;    /* bytes that it has room for */
     uint32_t shadows; /* pages of 256 bytes that a batch over a mapped file may change */
     uint32_t frames;  /* of SRAM, which hold pages that are written again and again; 0: for the size */
-    int bytewise;     /* the file system and the disk write a durable file byte by byte (envy_kept_file.h) */
+    int bytewise;     /* the file system and the disk write a durable file byte by byte (ENVY_BYTEWISE) */
 } bytes_options;
 #ifdef ENVY_CLIENT_MAPPED
 #define BYTES_OPTIONS_INIT {64u << 20, 4096, 0, 0}
@@ -59,7 +49,7 @@ struct known_words; /* known.h */
 struct undone;      /* batch.c */
 
 typedef struct bytes {
-    array_file *file;
+    envy *memory;
     envy_setup setup;
     uint64_t room;   /* bytes */
     uint64_t length; /* word 1 of the header */

@@ -3,7 +3,7 @@
 #
 #   clients/test.sh [WHAT..]      rounds, device, python, speedtest1, mptest, sqlite, memory; all of them if none is named
 #
-# The archives are made first, by `rt lib` in crates/envy_kept and crates/envy_mapped. speedtest1, mptest and sqlite need SQLite's
+# The archive is made first, by `rt lib` in crates/envy_library. speedtest1, mptest and sqlite need SQLite's
 # source (Debian: apt-get source sqlite3), whose folder SQLITE_SOURCE names; sqlite needs a testfixture made of it too, with
 # tcl-dev. ROUNDS (200) is how many rounds of each kind are made, JOBS (1) how many test files run at a time.
 set -eu

@@ -5,7 +5,7 @@
      book FILE move A B AMOUNT  moves an amount from account A to account B
      book FILE show A           prints what account A holds
      book FILE sum              prints the number of transfers and the sum of all accounts */
-#include "../c/envy_file.h"
+#include "../c/envy.h"
 #include "../c/envy_text.h"
 #include <stdio.h>
 #include <stdlib.h>
@@ -24,7 +24,7 @@ static const envy_setup setup = {
     .policy = ENVY_GREEDY, .limit = 100, .mark = 12,
 };
 
-static envy_file book = ENVY_FILE_INIT;
+static envy book = ENVY_INIT;
 
 static const char *text(uint32_t code) {
     switch (code) {
@@ -46,16 +46,16 @@ static int usage(void) {
 
 static uint32_t put(uint32_t slot, uint32_t address, uint64_t word) {
     uint32_t holder;
-    return envy_mapped_put(&book.memory, slot, address, word, &holder);
+    return envy_put(&book, slot, address, word, &holder);
 }
 
 /* All accounts in transactions, each of no more pages than may be owned at once. */
 static uint32_t fill(void) {
     uint32_t code = ENVY_DONE, slot;
     for (uint32_t a = 0; a < ACCOUNTS && code == ENVY_DONE;) {
-        if ((code = envy_mapped_begin(&book.memory, &slot)) != ENVY_DONE) return code;
+        if ((code = envy_begin(&book, &slot)) != ENVY_DONE) return code;
         for (int i = 0; i < 10 && a < ACCOUNTS && code == ENVY_DONE; i++) code = put(slot, account(a++), START);
-        if (code == ENVY_DONE) code = envy_mapped_commit(&book.memory, slot);
+        if (code == ENVY_DONE) code = envy_commit(&book, slot);
     }
     return code;
 }
@@ -63,26 +63,26 @@ static uint32_t fill(void) {
 /* Moves an amount, or nothing: where a call is refused the transaction is aborted. */
 static uint32_t move(uint32_t from, uint32_t to, uint64_t amount) {
     uint64_t source, target, count;
-    uint32_t slot, code = envy_mapped_begin(&book.memory, &slot);
+    uint32_t slot, code = envy_begin(&book, &slot);
     if (code != ENVY_DONE) return code;
-    code = envy_mapped_load(&book.memory, account(from), &source);
+    code = envy_load(&book, account(from), &source);
     if (code == ENVY_DONE && source < amount) code = TOO_LITTLE;
     if (code == ENVY_DONE) code = put(slot, account(from), source - amount);
-    if (code == ENVY_DONE) code = envy_mapped_load(&book.memory, account(to), &target);
+    if (code == ENVY_DONE) code = envy_load(&book, account(to), &target);
     if (code == ENVY_DONE) code = put(slot, account(to), target + amount);
-    if (code == ENVY_DONE) code = envy_mapped_load(&book.memory, 0, &count);
+    if (code == ENVY_DONE) code = envy_load(&book, 0, &count);
     if (code == ENVY_DONE) code = put(slot, 0, count + 1);
-    if (code == ENVY_DONE) return envy_mapped_commit(&book.memory, slot);
-    envy_mapped_abort(&book.memory, slot);
+    if (code == ENVY_DONE) return envy_commit(&book, slot);
+    envy_abort(&book, slot);
     return code;
 }
 
 static uint32_t sum(uint64_t *count, uint64_t *total) {
-    uint32_t code = envy_mapped_load(&book.memory, 0, count);
+    uint32_t code = envy_load(&book, 0, count);
     *total = 0;
     for (uint32_t a = 0; a < ACCOUNTS && code == ENVY_DONE; a++) {
         uint64_t word = 0;
-        code = envy_mapped_load(&book.memory, account(a), &word);
+        code = envy_load(&book, account(a), &word);
         *total += word;
     }
     return code;
@@ -100,7 +100,7 @@ static int run(int words, char **word) {
         uint64_t held = 0;
         uint32_t a = strtoul(word[3], NULL, 10);
         if (a >= ACCOUNTS) return failed("show", NO_ACCOUNT);
-        if ((code = envy_mapped_load(&book.memory, account(a), &held))) return failed("show", code);
+        if ((code = envy_load(&book, account(a), &held))) return failed("show", code);
         printf("%llu\n", (unsigned long long)held);
         return 0;
     }
@@ -120,9 +120,9 @@ int main(int words, char **word) {
         fprintf(stderr, "book: %s: %s\n", word[1], access(word[1], F_OK) ? "there is no such book" : "it is there already");
         return 1;
     }
-    uint32_t code = envy_file_open(&book, word[1], &setup);
+    uint32_t code = envy_open_mapped(&book, word[1], &setup, ENVY_CREATE);
     if (code != ENVY_DONE) return failed(word[1], code);
     int status = run(words, word);
-    code = envy_file_close(&book);
+    code = envy_close(&book);
     return code == ENVY_DONE ? status : failed(word[1], code);
 }

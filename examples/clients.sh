@@ -10,16 +10,15 @@ if ! gcc --version >/dev/null 2>&1; then
     echo "clients: SKIPPED: nothing was tried, for want of gcc" >&2
     exit 0
 fi
-library/build.py envy_mapped envy_kept
+library/build.py envy_library
 cd ../clients
 make -s all tests python
 tests=tests
 # package PROGRAM-OR-FILE: what gives it, of Debian's packages
 package() {
     case $1 in
-    *_mapped.so) echo "rt lib in crates/envy_mapped" ;;
-    *envyvfs.so) echo "libsqlite3-dev" ;;
-    *envy.so) echo "nbdkit-plugin-dev" ;;
+    *envyvfs*.so) echo "libsqlite3-dev" ;;
+    *envy.so | *envy-mapped.so) echo "nbdkit-plugin-dev" ;;
     nbdinfo | nbdcopy) echo "libnbd-bin" ;;
     *) echo "${1##*/}" ;;
     esac
@@ -74,13 +73,13 @@ if has "the device" out/envy.so nbdkit nbdinfo nbdcopy python3; then
     $tests/nbd_rounds.py kill 6
     $tests/nbd_rounds.py machine 12
     $tests/nbd_rounds.py bytewise 8 bytewise=true
-    if has "the device over mapped files" out/envy_mapped.so; then
-        PLUGIN=$PWD/out/envy_mapped.so $tests/nbd.sh "$work"
+    if has "the device over mapped files" out/envy-mapped.so; then
+        PLUGIN=$PWD/out/envy-mapped.so $tests/nbd.sh "$work"
         $tests/nbd_rounds.py kill 5 --mapped
     fi
     $tests/fs_rounds.py 3 || [ $? = 77 ]
 fi
-if has "the package for Python" python3 ../c/out/libenvy_kept.so.0; then
+if has "the package for Python" python3 ../c/out/libenvy.so.0; then
     $tests/python.sh "$work"
     # (it says itself what it lacks)
     ../examples/failing_disk.sh "$PWD/$tests/kept_lines.py" 6

@@ -4,7 +4,7 @@
 # Words: a folder on the disk that is measured (that of temporary files), and a program (the proved one). It needs gcc;
 # SQLite and LMDB are left out where their headers aren't (Debian: libsqlite3-dev, liblmdb-dev). ROUNDS is how often each is
 # measured (9); the best and the middle one are told. file/kept_speed.c says what is done. The library's row wants its
-# archive (cd crates/envy_kept && rt lib).
+# archive (cd crates/envy_library && rt lib).
 set -eu
 cd "$(dirname "$0")"
 program=${2-$(../envy --program counted)} || exit 1
@@ -18,9 +18,9 @@ compiles() { echo 'int main(void) { return 0; }' | gcc -x c -o "$work/none" - "$
 
 engines='disk keep keep-bytewise'
 with=
-if [ -e ../crates/envy_kept/out/libenvy_kept.a ]; then
-    make -s out/lib/libenvy_kept.a
-    engines="$engines kept kept-bytewise" with="$with -DWITH_KEPT out/lib/libenvy_kept.a"
+if [ -e ../crates/envy_library/out/libenvy_library.a ]; then
+    make -s out/lib/libenvy.a
+    engines="$engines kept kept-bytewise" with="$with -DWITH_ENVY out/lib/libenvy.a"
 fi
 if compiles -include sqlite3.h -lsqlite3; then
     engines="$engines sqlite-full sqlite-full-each sqlite-normal" with="$with -DWITH_SQLITE -lsqlite3"

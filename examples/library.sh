@@ -1,7 +1,7 @@
 #!/usr/bin/env bash
-# The libraries that C and Rust programs link, tried by such programs: the answers of `envy run`, every number, images,
-# kills at drawn moments, an ordered map, files that are kept, the account book in both languages, the Rust package, and what is installed. It needs gcc and
-# rustc, and a program that `envy` starts at once (./envy --prove, or .ci/run). Where a compiler for 64-bit ARM and its
+# The library that C and Rust programs link, tried by such programs: the same work over each board, the answers of `envy run`,
+# every number, images, kills at drawn moments, an ordered map, files that are kept, the account book in both languages, the
+# Rust package, the earlier names, and what is installed. It needs gcc and rustc, and a program that `envy` starts at once (./envy --prove, or .ci/run). Where a compiler for 64-bit ARM and its
 # emulator are (Debian: gcc-aarch64-linux-gnu libc6-dev-arm64-cross qemu-user), the same is tried of the library for that
 # processor. A word is the number that the kills are drawn from.
 set -eu
@@ -15,72 +15,79 @@ for tool in gcc rustc; do
 done
 arm=
 if aarch64-linux-gnu-gcc --version >/dev/null 2>&1 && qemu-aarch64 --version >/dev/null 2>&1; then arm=aarch64; fi
-library/build.py envy_mapped envy_sim envy_kept ${arm:+--also=$arm}
+library/build.py envy_library ${arm:+--also=$arm}
 make -s all tests
 work=$(mktemp -d "${TMPDIR:-/tmp}/envy-library.XXXXXX")
 trap 'rm -rf "$work"' EXIT
-
-# the lines of C that docs/LIBRARY.md shows, as they are there
-{
-    printf '#include "envy_sim.h"\nint main(void) {\n'
-    sed -n '/^    envy_setup setup/,/^    envy_sim_load/p' ../docs/LIBRARY.md
-    printf '    return word == 7 ? 0 : 1;\n}\n'
-} >"$work/lines.c"
-gcc -Wall -Wextra -I ../c -o "$work/lines" "$work/lines.c" ../c/heap.c ../crates/envy_sim/out/libenvy_sim.a
-"$work/lines"
-echo "library: the lines of C do what the page says"
 
 # what is installed links by its own words, by pkg-config's where that is, and moves
 make -s -C ../c install PREFIX="$work/installed"
 config=$work/installed/bin/envy-config
 [ "$($config --version)" = "$(cat ../VERSION)" ]
+# linked NAME FILE WORDS..: a program over what is installed
+linked() {
+    local name=$1 file=$2
+    shift 2
+    # shellcheck disable=SC2046
+    gcc -Wall -Wextra $($config --cflags) -o "$work/$name" "$work/$file" "$@"
+}
+# counted NAME [VARIABLE=VALUE]: a program that counts how often it was run, in a folder of its own
+counted() {
+    mkdir "$work/$1.runs"
+    (cd "$work/$1.runs" && env "${2-_=}" "../$1" && env "${2-_=}" "../$1") >"$work/told"
+    [ "$(cat "$work/told")" = "$(printf 'run 1: done\nrun 2: done')" ]
+}
+# the lines of C that docs/LIBRARY.md shows, as they are there
+{
+    printf '#include "envy.h"\nint main(void) {\n'
+    sed -n '/^    envy_setup setup/,/^    envy_load/p' ../docs/LIBRARY.md
+    printf '    return word == 7 ? 0 : 1;\n}\n'
+} >"$work/lines.c"
 # shellcheck disable=SC2046
-gcc $($config --cflags) -o "$work/lines" "$work/lines.c" $($config --libs-sim)
+linked lines lines.c $($config --libs)
 "$work/lines"
+echo "library: the lines of C do what the page says"
+# the programs of README and of the page for those who link it
+sed -n 's/^    //; /^#include "envy.h"/,/^}/p' ../README.md >"$work/readme.c"
+sed -n 's/^    //; /^#include "envy.h"/,/^}/p' ../c/LINKING.md >"$work/runs.c"
 # shellcheck disable=SC2046
-sed 's|"../c/|"|' book.c >"$work/book.c" && gcc $($config --cflags) -o "$work/book" "$work/book.c" $($config --libs)
-sed -n 's/^    //; /^#include "envy_kept_file.h"/,/^}/p' ../c/LINKING.md >"$work/runs.c"
-# shellcheck disable=SC2046
-gcc -Wall -Wextra $($config --cflags) -o "$work/kept-runs" "$work/runs.c" $($config --libs-kept)
-(cd "$work" && ./kept-runs && ./kept-runs) >"$work/told"
-[ "$(cat "$work/told")" = "$(printf 'run 1: done\nrun 2: done')" ]
-# and the program of README
-sed -n 's/^    //; /^#include "envy_kept_file.h"/,/^}/p' ../README.md >"$work/readme.c"
-# shellcheck disable=SC2046
-gcc -Wall -Wextra $($config --cflags) -o "$work/readme" "$work/readme.c" $($config --libs-kept)
-(cd "$work" && ./readme && ./readme) >"$work/told"
-[ "$(cat "$work/told")" = "$(printf 'run 1: done\nrun 2: done')" ]
+linked readme readme.c $($config --libs) && linked runs runs.c $($config --libs)
+counted readme && counted runs
 if pkg-config --version >/dev/null 2>&1; then
     export PKG_CONFIG_PATH=$work/installed/lib/pkgconfig
     # shellcheck disable=SC2046
-    gcc $(pkg-config --cflags envy) -o "$work/book" "$work/book.c" $(pkg-config --libs envy)
-    # shellcheck disable=SC2046
-    gcc $(pkg-config --cflags envy_kept) -o "$work/kept-runs" "$work/runs.c" $(pkg-config --libs envy_kept)
+    gcc $(pkg-config --cflags envy) -o "$work/packaged" "$work/runs.c" $(pkg-config --libs envy)
+    counted packaged
 fi
+# shellcheck disable=SC2046
+sed 's|"../c/|"|' book.c >"$work/book.c" && linked book book.c $($config --libs)
 "$work/book" "$work/installed.book" new
 [ "$("$work/book" "$work/installed.book" sum)" = "0 transfers, 100000 in all" ]
-# and the program that is shown to those who link it
-sed -n 's/^    //; /^#include "envy_file.h"/,/^}/p' ../c/LINKING.md >"$work/counter.c"
-# shellcheck disable=SC2046
-gcc -Wall -Wextra $($config --cflags) -o "$work/runs" "$work/counter.c" $($config --libs)
-(cd "$work" && ./runs && ./runs) >"$work/told"
-[ "$(cat "$work/told")" = "$(printf 'run 1: done\nrun 2: done')" ]
 echo "library: what is installed links and runs"
 
 # the shared object shows each function of its headers and nothing else, and a program that is linked with it runs
-printf '#include "%s"\n' envy_kept.h envy_kept_file.h envy_kept_index.h envy_kept_map.h envy_setup.h envy_text.h >"$work/all.c"
+printf '#include "%s"\n' envy.h envy_disk.h envy_setup.h envy_text.h >"$work/all.c"
 # shellcheck disable=SC2046
 gcc $($config --cflags) -fsyntax-only -aux-info "$work/functions" "$work/all.c"
 grep -o 'envy_[a-z0-9_]* (' "$work/functions" | tr -d ' (' | sort -u >"$work/wanted"
-nm -D --defined-only "$work/installed/lib/libenvy_kept.so.0" | sed 's/.* //' | sort >"$work/shown"
+nm -D --defined-only "$work/installed/lib/libenvy.so.0" | sed 's/.* //' | sort >"$work/shown"
 cmp "$work/wanted" "$work/shown"
 # shellcheck disable=SC2046
-gcc -Wall -Wextra $($config --cflags) -o "$work/loads" "$work/runs.c" $($config --libs-kept-shared)
-mkdir "$work/loaded"
-(cd "$work/loaded" && export LD_LIBRARY_PATH="$work/installed/lib" && ../loads && ../loads) >"$work/told"
-[ "$(cat "$work/told")" = "$(printf 'run 1: done\nrun 2: done')" ]
-readelf -d "$work/loads" | grep -q 'NEEDED.*libenvy_kept\.so\.0'
+linked loads runs.c $($config --libs-shared)
+counted loads LD_LIBRARY_PATH="$work/installed/lib"
+readelf -d "$work/loads" | grep -q 'NEEDED.*libenvy\.so\.0'
 echo "library: the shared object shows the $(wc -l <"$work/shown") functions of its headers, and runs"
+
+# what is installed goes again
+make -s -C ../c uninstall PREFIX="$work/installed"
+[ -z "$(find "$work/installed" ! -type d)" ]
+
+# the same work over each board, and a program in the earlier names
+mkdir "$work/one" "$work/one-asan" "$work/old"
+out/one "$work/one"
+ASAN_OPTIONS=detect_leaks=0 out/one-asan "$work/one-asan" # a handle's place lasts as long as the process
+echo "library: the same work is answered the same over files, regions and a simulation"
+out/old_names "$work/old"
 
 # 10,000 commands that are drawn, some loads made looks, and a failure of power before every thousandth
 ../envy gen --start 20 --lines 10000 |
@@ -141,8 +148,9 @@ out/kept_ordered "$work/kept-ordered.file" 32000 "${1-1}"
 # (10,000,000 pairs, in an array of more pages than the tree once took, take some minutes: out/large_map FILE 10000000)
 out/large_map "$work/large-map.file" 100000
 ASAN_OPTIONS=detect_leaks=0 out/files-asan "$work/files.file" # a handle lasts as long as the process
-TMPDIR=$work out/rust-tests --quiet
-TMPDIR=$work out/rust-kept-tests --quiet
+for test in ../rust/tests/*.rs; do TMPDIR=$work "out/rust-$(basename "$test" .rs)" --quiet; done
+
+[ "$(out/threads-rust "$work/threads.kept")" = "8000 in all" ]
 
 for program in book book-asan book-rust; do
     book() { out/$program "$work/$program.book" "$@"; }
@@ -174,10 +182,11 @@ if [ -z "$arm" ]; then
     exit 0
 fi
 make -s CC=aarch64-linux-gnu-gcc CFLAGS="-O2 -std=gnu11 -Wall -Wextra -Wpedantic -static" OUT=out/$arm \
-    LIBRARY=../crates/envy_mapped/out/$arm/libenvy_mapped.a KEPT=../crates/envy_kept/out/$arm/libenvy_kept.a \
-    OBJCOPY=aarch64-linux-gnu-objcopy programs
+    LIBRARY=../crates/envy_library/out/$arm/libenvy_library.a OBJCOPY=aarch64-linux-gnu-objcopy programs
 emulated() { program=$1 && shift && qemu-aarch64 "out/$arm/$program" "$@"; }
 ../envy run <"$work/trace" >"$work/wanted"
+mkdir "$work/arm-one"
+emulated one "$work/arm-one"
 emulated replay "$work/arm.file" <"$work/trace" >"$work/arm.replies"
 cmp "$work/wanted" "$work/arm.replies"
 emulated refused "$work/arm-refused.file"

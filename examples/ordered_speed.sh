@@ -2,13 +2,14 @@
 # A map of this library beside LMDB and SQLite: microseconds and instructions for each pair, in a file, each change a
 # transaction of its own, and 100 in one, none waiting for the disk. Words: how many pairs (100000), and a folder for the files (that of
 # temporary files; a file system in memory leaves the disk out). It needs gcc, the libraries lmdb and sqlite3 with their
-# headers, and the library (cd crates/envy_mapped && rt lib); for instructions valgrind.
+# headers, and the library (cd crates/envy_library && rt lib); for instructions valgrind.
 set -eu
 cd "$(dirname "$0")"
 pairs=${1-100000}
 work=$(mktemp -d "${2-${TMPDIR:-/tmp}}/envy-ordered.XXXXXX")
 trap 'rm -rf "$work"' EXIT
-gcc -O2 -g -std=gnu11 -o "$work/speed" library/ordered_speed.c ../c/heap.c ../c/envy_file.c ../c/envy_setup.c ../c/envy_text.c ../crates/envy_mapped/out/libenvy_mapped.a -llmdb -lsqlite3
+make -s out/lib/libenvy.a
+gcc -O2 -g -std=gnu11 -o "$work/speed" library/ordered_speed.c out/lib/libenvy.a -llmdb -lsqlite3
 engines='envy lmdb sqlite'
 
 for together in 1 100; do

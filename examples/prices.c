@@ -8,8 +8,7 @@
      prices FILE count              prints how many articles there are, and how many changes were made
 
    Articles and prices are numbers of 32 bits. */
-#include "../c/envy_file.h"
-#include "../c/envy_map.h"
+#include "../c/envy.h"
 #include "../c/envy_text.h"
 #include <stdio.h>
 #include <stdlib.h>
@@ -26,7 +25,7 @@ static const envy_setup setup = {
     .policy = ENVY_GREEDY, .limit = 100, .mark = 48,
 };
 
-static envy_file file = ENVY_FILE_INIT;
+static envy file = ENVY_INIT;
 
 /* Articles of one price have keys that differ, and lie side by side. */
 static uint64_t price_key(uint64_t price, uint64_t article) { return price << 32 | article; }
@@ -39,33 +38,33 @@ static int failed(const char *what, uint32_t code) {
 /* One more change is counted. */
 static uint32_t count_change(uint32_t slot) {
     uint64_t changes;
-    uint32_t holder, code = envy_mapped_load(&file.memory, COUNTER, &changes);
-    return code == ENVY_DONE ? envy_mapped_put(&file.memory, slot, COUNTER, changes + 1, &holder) : code;
+    uint32_t holder, code = envy_load(&file, COUNTER, &changes);
+    return code == ENVY_DONE ? envy_put(&file, slot, COUNTER, changes + 1, &holder) : code;
 }
 
 static uint32_t set(uint32_t slot, uint64_t article, uint64_t price) {
     envy_old old, none;
-    uint32_t code = envy_map_insert(&file.memory, slot, &by_article, article, price, &old);
+    uint32_t code = envy_map_insert(&file, slot, &by_article, article, price, &old);
     if (code == ENVY_DONE && old.had)
-        code = envy_map_remove(&file.memory, slot, &by_price, price_key(old.value, article), &old.value);
-    if (code == ENVY_DONE) code = envy_map_insert(&file.memory, slot, &by_price, price_key(price, article), 0, &none);
+        code = envy_map_remove(&file, slot, &by_price, price_key(old.value, article), &old.value);
+    if (code == ENVY_DONE) code = envy_map_insert(&file, slot, &by_price, price_key(price, article), 0, &none);
     return code == ENVY_DONE ? count_change(slot) : code;
 }
 
 static uint32_t drop(uint32_t slot, uint64_t article) {
     uint64_t price;
-    uint32_t code = envy_map_remove(&file.memory, slot, &by_article, article, &price);
-    if (code == ENVY_DONE) code = envy_map_remove(&file.memory, slot, &by_price, price_key(price, article), &price);
+    uint32_t code = envy_map_remove(&file, slot, &by_article, article, &price);
+    if (code == ENVY_DONE) code = envy_map_remove(&file, slot, &by_price, price_key(price, article), &price);
     return code == ENVY_DONE ? count_change(slot) : code;
 }
 
 /* A change as one transaction: if a part of it is refused, nothing of it is kept. */
 static uint32_t change(int sets, uint64_t article, uint64_t price) {
-    uint32_t slot, code = envy_map_begin(&file.memory, &slot);
+    uint32_t slot, code = envy_map_begin(&file, &slot);
     if (code != ENVY_DONE) return code;
     code = sets ? set(slot, article, price) : drop(slot, article);
-    if (code == ENVY_DONE) return envy_map_commit(&file.memory, slot);
-    if (code != ENVY_BAD_ABORTED) envy_map_abort(&file.memory, slot);
+    if (code == ENVY_DONE) return envy_map_commit(&file, slot);
+    if (code != ENVY_BAD_ABORTED) envy_map_abort(&file, slot);
     return code;
 }
 
@@ -74,7 +73,7 @@ static uint32_t print_from(uint64_t low, uint64_t high) {
     uint64_t key = price_key(low, 0);
     size_t count = TOGETHER;
     while (count == TOGETHER) {
-        uint32_t code = envy_map_scan(&file.memory, &by_price, key, pairs, TOGETHER, &count);
+        uint32_t code = envy_map_scan(&file, &by_price, key, pairs, TOGETHER, &count);
         if (code != ENVY_DONE) return code;
         for (size_t i = 0; i < count; i++) {
             if (pairs[i].key >> 32 > high) return ENVY_DONE;
@@ -88,16 +87,16 @@ static uint32_t print_from(uint64_t low, uint64_t high) {
 
 static uint32_t print_count(void) {
     uint64_t articles = 0, prices = 0, changes = 0;
-    uint32_t code = envy_map_count(&file.memory, &by_article, &articles);
-    if (code == ENVY_DONE) code = envy_map_count(&file.memory, &by_price, &prices);
-    if (code == ENVY_DONE) code = envy_mapped_load(&file.memory, COUNTER, &changes);
+    uint32_t code = envy_map_count(&file, &by_article, &articles);
+    if (code == ENVY_DONE) code = envy_map_count(&file, &by_price, &prices);
+    if (code == ENVY_DONE) code = envy_load(&file, COUNTER, &changes);
     if (code == ENVY_DONE) printf("%lu articles, %lu prices, %lu changes\n", articles, prices, changes);
     return code;
 }
 
 static uint32_t show(uint64_t article) {
     uint64_t price = 0;
-    uint32_t code = envy_map_get(&file.memory, &by_article, article, &price);
+    uint32_t code = envy_map_get(&file, &by_article, article, &price);
     if (code == ENVY_DONE) printf("%lu\n", (unsigned long)price);
     return code;
 }
@@ -106,7 +105,7 @@ static uint32_t number(const char *word) { return strtoul(word, NULL, 10); }
 
 int main(int words, char **word) {
     if (words < 3) return fputs("prices: FILE set ARTICLE PRICE|drop ARTICLE|show ARTICLE|from LOW HIGH|count\n", stderr), 2;
-    uint32_t code = envy_file_open(&file, word[1], &setup);
+    uint32_t code = envy_open_mapped(&file, word[1], &setup, ENVY_CREATE);
     if (code != ENVY_DONE) return failed(word[1], code);
     const char *what = word[2];
     if (!strcmp(what, "set") && words == 5) code = change(1, number(word[3]), number(word[4]));
@@ -116,6 +115,6 @@ int main(int words, char **word) {
     else if (!strcmp(what, "count") && words == 3) code = print_count();
     else return fputs("prices: no such word\n", stderr), 2;
     int status = code == ENVY_DONE ? 0 : failed(what, code);
-    code = envy_file_close(&file);
+    code = envy_close(&file);
     return code == ENVY_DONE ? status : failed(word[1], code);
 }

@@ -26,11 +26,11 @@ git clone -q . "$work/clone" || exit 1
 cp release.sh envy VERSION "$work/clone" && cp words/* "$work/clone/words" && cp c/Makefile "$work/clone/c" && cp clients/Makefile "$work/clone/clients"
 mkdir -p "$work/from/x86_64" "$work/from/aarch64"
 echo 'int envy_stand_in;' >"$work/stand_in.c"
-# (what the C beside the archive of kept files calls has to be there for the shared object)
-sed -n 's/^[a-z].*[ *]\(envy_kept_[a-z_]*\)(.*/int \1;/p' c/envy_kept.h c/envy_kept_index.h c/envy_kept_map.h >>"$work/stand_in.c"
+# (what the C beside the archive calls has to be there for the shared object)
+sed -n 's/^pub extern "C" fn \([a-z_]*\)(.*/int \1;/p' crates/envy_library/src/*.rt >>"$work/stand_in.c"
 gcc -fPIC -c -o "$work/x86_64.o" "$work/stand_in.c"
 aarch64-linux-gnu-gcc -fPIC -c -o "$work/aarch64.o" "$work/stand_in.c"
-for name in mapped sim kept parted; do
+for name in library parted; do
     ar rcs "$work/from/x86_64/libenvy_$name.a" "$work/x86_64.o"
     aarch64-linux-gnu-ar rcs "$work/from/aarch64/libenvy_$name.a" "$work/aarch64.o"
 done
@@ -58,8 +58,8 @@ headers=$(printf '#include <sqlite3ext.h>\n#include <nbdkit-plugin.h>\n' | gcc -
 if command -v dpkg-deb >/dev/null; then
     dpkg-deb -x "$work/clone/out/envy_${version}_amd64.deb" "$work/installed" || fail "the package isn't one"
     answers "the package" "$work/installed/usr/bin/envy"
-    for file in usr/lib/libenvy_parted.a usr/include/envy_kept.h usr/share/envy/aarch64/libenvy_kept.a usr/share/doc/envy/copyright \
-        usr/lib/libenvy_kept.so usr/share/envy/aarch64/libenvy_kept.so.0 usr/lib/python3/dist-packages/envy/memory.py \
+    for file in usr/lib/libenvy_parted.a usr/include/envy.h usr/share/envy/aarch64/libenvy.a usr/share/doc/envy/copyright \
+        usr/lib/libenvy.so usr/share/envy/aarch64/libenvy.so.0 usr/lib/python3/dist-packages/envy/memory.py \
         usr/share/doc/envy/changelog.gz usr/share/man/man1/envy.1.gz usr/share/bash-completion/completions/envy \
         ${headers:+usr/lib/envy/envyvfs.so usr/lib/x86_64-linux-gnu/nbdkit/plugins/nbdkit-envy-plugin.so}; do
         [ -s "$work/installed/$file" ] || fail "the package has no $file"
@@ -68,12 +68,12 @@ else
     echo "released: no package was tried: dpkg-deb is not on the path" >&2
 fi
 for file in LICENSE NOTICE CHANGELOG.md rust/Cargo.toml lib/x86_64/libenvy_parted.a lib/aarch64/libenvy_parted.a include/envy_parted.h \
-    lib/x86_64/libenvy_kept.so.0 lib/aarch64/libenvy_kept.so; do
+    lib/x86_64/libenvy.so.0 lib/aarch64/libenvy.so include/envy_old.h include/envy_file.h; do
     [ -s "$here/$file" ] || fail "the tar has no $file"
 done
 # the clients, built if the headers of SQLite and nbdkit are here, and once more by the user of the tar
 if [ -n "$headers" ]; then
-    for file in envyvfs.so envyvfs_mapped.so libenvyvfs.a envy.so envy_mapped.so; do
+    for file in envyvfs.so envyvfs_mapped.so libenvyvfs.a envy.so envy-mapped.so; do
         [ -s "$here/lib/x86_64/$file" ] || fail "the tar has no $file"
     done
     make -s -C "$here/clients" PREFIX="$work/prefix" install >"$work/said" 2>&1 || fail "no clients are made of the tar: $(tail -n 3 "$work/said")"
@@ -110,8 +110,8 @@ done
 [ "$(completed envy run --policy li)" = lifetime ] || fail "no policy is offered"
 
 # what is installed goes again
-make -s -C "$work/clone/c" MAPPED="$work/from/x86_64/libenvy_mapped.a" MEMORY="$work/from/x86_64/libenvy_sim.a" \
-    KEPT="$work/from/x86_64/libenvy_kept.a" PARTED="$work/from/x86_64/libenvy_parted.a" PREFIX="$work/prefix" install || fail "nothing was installed"
+make -s -C "$work/clone/c" LIBRARY="$work/from/x86_64/libenvy_library.a" PARTED="$work/from/x86_64/libenvy_parted.a" \
+    PREFIX="$work/prefix" install || fail "nothing was installed"
 [ "$(find "$work/prefix" -type f | wc -l)" -ge 18 ] || fail "too little was installed"
 make -s -C "$work/clone/c" PREFIX="$work/prefix" uninstall
 [ -z "$(find "$work/prefix" ! -type d)" ] || fail "uninstall left $(find "$work/prefix" ! -type d | head -n 3)"

@@ -5,8 +5,5 @@ fn main() {
     println!("cargo:rerun-if-env-changed=ENVY_LIB_DIR");
     let folder = env::var("ENVY_LIB_DIR").unwrap_or_else(|_| "/usr/local/lib".to_string());
     println!("cargo:rustc-link-search=native={folder}");
-    println!("cargo:rustc-link-lib=static=envy_mapped");
-    if env::var_os("CARGO_FEATURE_KEPT").is_some() {
-        println!("cargo:rustc-link-lib=static=envy_kept");
-    }
+    println!("cargo:rustc-link-lib=static=envy");
 }

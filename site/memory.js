@@ -1,4 +1,4 @@
-// The module of proved code, and a memory of its: each method makes one call of c/envy_sim.h.
+// The module of proved code, and a memory of its: each method makes one call of c/envy.h.
 
 export const DONE = 0, OFF = 2, RANGE = 3, HELD = 4, FULL = 5, BUSY = 6, CLOSED = 7, BAD = 8, DEAD = 12;
 export const POLICIES = ["greedy", "fifo", "locality", "hybrid", "lifetime"];
@@ -26,9 +26,9 @@ export async function loadModule(url) {
 const places = [];
 
 function newPlace(calls) {
-  const at = calls.envy_page_room(8n), room = calls.envy_page_room(64n);
-  new DataView(calls.memory.buffer).setBigUint64(Number(at), 0n, true);
-  if (calls.envy_sim_new(at) !== DONE) throw new Error("out of memory");
+  const at = calls.envy_page_room(16n), room = calls.envy_page_room(64n);
+  new Uint8Array(calls.memory.buffer, Number(at), 16).fill(0);
+  if (calls.envy_new(at) !== DONE) throw new Error("out of memory");
   return { at, room };
 }
 
@@ -40,7 +40,7 @@ export class Memory {
     this.on = true;
     Object.assign(this, places.pop() ?? newPlace(calls));
     this.writeSetup();
-    const code = calls.envy_sim_format(this.at, this.room, lives);
+    const code = calls.envy_open_sim(this.at, this.room, lives);
     if (code === DONE) return;
     places.push({ at: this.at, room: this.room });
     throw new Error(RULES[code] ?? `refused: ${code}`);
@@ -74,70 +74,70 @@ export class Memory {
   }
 
   load(address) {
-    const code = this.ended(this.calls.envy_sim_load(this.at, address, this.room));
+    const code = this.ended(this.calls.envy_load(this.at, address, this.room));
     return { code, word: this.word() };
   }
 
   look(address) {
-    const code = this.ended(this.calls.envy_sim_look(this.at, address, this.room));
+    const code = this.ended(this.calls.envy_look(this.at, address, this.room));
     return { code, word: this.word() };
   }
 
   store(address, word) {
-    const code = this.ended(this.calls.envy_sim_store(this.at, address, word, this.room));
+    const code = this.ended(this.calls.envy_store(this.at, address, word, this.room));
     return { code, slot: this.half() };
   }
 
   begin() {
-    const code = this.ended(this.calls.envy_sim_begin(this.at, this.room));
+    const code = this.ended(this.calls.envy_begin(this.at, this.room));
     return { code, slot: this.half() };
   }
 
   put(slot, address, word) {
-    const code = this.ended(this.calls.envy_sim_put(this.at, slot, address, word, this.room));
+    const code = this.ended(this.calls.envy_put(this.at, slot, address, word, this.room));
     return { code, slot: this.half() };
   }
 
   commit(slot) {
-    return { code: this.ended(this.calls.envy_sim_commit(this.at, slot)) };
+    return { code: this.ended(this.calls.envy_commit(this.at, slot)) };
   }
 
   abort(slot) {
-    return { code: this.ended(this.calls.envy_sim_abort(this.at, slot)) };
+    return { code: this.ended(this.calls.envy_abort(this.at, slot)) };
   }
 
   tick() {
-    return { code: this.ended(this.calls.envy_sim_tick(this.at, this.room)) };
+    return { code: this.ended(this.calls.envy_tick(this.at, this.room)) };
   }
 
   armCut(k, g) {
-    return this.calls.envy_sim_arm_cut(this.at, k, g);
+    return this.calls.envy_arm_cut(this.at, k, g);
   }
 
   armBad(k, g) {
-    return this.calls.envy_sim_arm_bad(this.at, k, g);
+    return this.calls.envy_arm_bad(this.at, k, g);
   }
 
   cutNow() {
-    this.calls.envy_sim_cut_now(this.at);
+    this.calls.envy_cut_now(this.at);
     this.on = false;
   }
 
   // Asks for power once. OFF: power failed again, in the restart.
   revive() {
-    const code = this.calls.envy_sim_revive(this.at);
+    const code = this.calls.envy_revive(this.at);
     this.on = code === DONE;
     return code;
   }
 
   counts() {
-    this.calls.envy_sim_counts(this.at, this.room);
+    this.calls.envy_counters(this.at, this.room);
     return Object.fromEntries(COUNTERS.map((name, i) => [name, this.word(i)]));
   }
 
   // Ends the memory; its handle serves another one.
   close() {
-    this.calls.envy_sim_close(this.at);
+    this.calls.envy_close(this.at);
     places.push({ at: this.at, room: this.room });
   }
 
@@ -148,7 +148,7 @@ export class Memory {
     const shown = { segments: [], pages: [], frames: new Array(frames).fill(null), job: this.job() };
     for (let segment = 0; segment < segments; segment++) shown.segments.push(this.segment(segment, rows));
     for (let position = 0; position < segments - 1; position++) {
-      this.calls.envy_sim_position(this.at, position, this.room);
+      this.calls.envy_show_position(this.at, position, this.room);
       shown.segments[this.half()].position = position;
     }
     for (let page = 0; page < pages; page++) {
@@ -160,22 +160,22 @@ export class Memory {
   }
 
   segment(segment, rows) {
-    this.calls.envy_sim_segment(this.at, segment, this.room);
+    this.calls.envy_show_segment(this.at, segment, this.room);
     const shown = { wear: this.word(), fill: this.half(2), position: null, rows: [] };
     for (let row = segment * rows; row < (segment + 1) * rows; row++) {
-      this.calls.envy_sim_row(this.at, row, this.room);
+      this.calls.envy_show_row(this.at, row, this.room);
       shown.rows.push({ kind: KINDS[this.half(0)], page: this.half(1), slot: this.half(2) });
     }
     return shown;
   }
 
   page(page) {
-    this.calls.envy_sim_page(this.at, page, this.room);
+    this.calls.envy_show_page(this.at, page, this.room);
     return { place: this.half(0), at: this.half(1), undo: this.half(2), slot: this.half(3), shadow: this.half(4) };
   }
 
   job() {
-    this.calls.envy_sim_job(this.at, this.room);
+    this.calls.envy_show_job(this.at, this.room);
     return { kind: JOBS[this.half(0)], segment: this.half(1) };
   }
 }

@@ -63,7 +63,7 @@ refuses "has room for 1 to" file=big size=4G
 refuses "no parameter is called shape" file=big shape=round
 refuses "file=PATH says" size=1M
 echo "no device" >other
-refuses "$(case $plugin in *mapped*) echo "isn't formatted" ;; *) echo "holds no memory" ;; esac)" file=other
+refuses "holds no memory" file=other
 [ ! -e big ] && [ "$(cat other)" = "no device" ] || fail "a refused file was made or changed"
 
 serve disk size=8M

@@ -25,7 +25,7 @@ if ! "$python" -m pip --version >/dev/null 2>&1; then
 fi
 "$python" -m pip --disable-pip-version-check install --quiet --no-index --root-user-action=ignore --target "$work/site" "$here"
 mkdir "$work/copied" && cp -r tests "$work/copied"
-export ENVY_LIBRARY=$here/../../c/out/libenvy_kept.so.0
+export ENVY_LIBRARY=$here/../../c/out/libenvy.so.0
 (cd "$work" && PYTHONPATH=$work/site "$python" -c 'import envy, sys; sys.exit(not envy.__file__.startswith(sys.argv[1]))' "$work/site")
 said=$(ENVY_KILLS=2 tried "$work/site" "$work/copied")
 echo "python: $said, installed by pip"

@@ -10,7 +10,7 @@
      disk               2 KiB are written behind a file's end and synced, and nothing else is done
      keep PROGRAM       the program's word keep, fed by a pipe: each transfer a transaction of its own
      keep-bytewise PROGRAM   the same with --bytewise 1: the file is trusted to be written byte by byte
-     kept               the same memory through the library (built with -DWITH_KEPT)
+     kept               the same memory through the library (built with -DWITH_ENVY)
      kept-bytewise      the same with that premise
      sqlite-full        write-ahead log, synchronous = full: the transfers between two syncs are one transaction
      sqlite-full-each   the same; each is a transaction of its own, and only the last before a sync waits for the disk
@@ -169,26 +169,26 @@ static void disk_transfer(const transfer *t, int is_first, int is_last) {
 
 /* ---- the library */
 
-#ifdef WITH_KEPT
-#include "../../c/envy_kept_file.h"
+#ifdef WITH_ENVY
+#include "../../c/envy.h"
 
-static envy_kept_file kept = ENVY_KEPT_FILE_INIT;
+static envy kept = ENVY_INIT;
 
 static void answers(uint32_t code, const char *what) { must(code == ENVY_DONE, what); }
 
-static void kept_open_by(uint32_t (*open_file)(envy_kept_file *, const char *, const envy_setup *), const char *path) {
+static void kept_open_by(const char *path, uint32_t flags) {
     const envy_setup setup = {
         .segments = 64, .rows = 512, .pages = PAGES, .shadows = 64, .frames = 256, .entries = 4096,
         .policy = ENVY_GREEDY, .part = 2, .limit = 100, .mark = 256,
     };
     uint32_t holder;
-    answers(open_file(&kept, path, &setup), "open");
-    for (uint32_t page = 0; page < PAGES; page++) answers(envy_kept_store(&kept.memory, 32 * page, 0, &holder), "store");
-    answers(envy_kept_sync(&kept.memory), "sync");
+    answers(envy_open_file(&kept, path, &setup, ENVY_CREATE | flags), "open");
+    for (uint32_t page = 0; page < PAGES; page++) answers(envy_store(&kept, 32 * page, 0, &holder), "store");
+    answers(envy_sync(&kept), "sync");
 }
 
-static void kept_open(const char *path) { kept_open_by(envy_kept_open_file, path); }
-static void kept_open_bytewise(const char *path) { kept_open_by(envy_kept_open_file_bytewise, path); }
+static void kept_open(const char *path) { kept_open_by(path, 0); }
+static void kept_open_bytewise(const char *path) { kept_open_by(path, ENVY_BYTEWISE); }
 
 static void kept_transfer(const transfer *t, int is_first, int is_last) {
     (void)is_first;
@@ -197,22 +197,22 @@ static void kept_transfer(const transfer *t, int is_first, int is_last) {
     uint32_t slot, holder, did;
     uint64_t balance;
     size_t done;
-    answers(envy_kept_begin(&kept.memory, &slot), "begin");
+    answers(envy_begin(&kept, &slot), "begin");
     for (int i = 0; i < 3; i++) {
-        answers(envy_kept_load(&kept.memory, at[i], &balance), "load");
-        answers(envy_kept_put(&kept.memory, slot, at[i], balance + (uint64_t)t->delta, &holder), "put");
+        answers(envy_load(&kept, at[i], &balance), "load");
+        answers(envy_put(&kept, slot, at[i], balance + (uint64_t)t->delta, &holder), "put");
     }
-    answers(envy_kept_write(&kept.memory, slot, AT_HISTORY + 4 * (t->number % HISTORY), past, 4, &done, &holder), "write");
-    answers(envy_kept_put(&kept.memory, slot, 0, t->number + 1, &holder), "put");
-    answers(envy_kept_commit(&kept.memory, slot), "commit");
-    answers(envy_kept_tick(&kept.memory, &did), "tick");
-    if (is_last) answers(envy_kept_sync(&kept.memory), "sync");
+    answers(envy_write(&kept, slot, AT_HISTORY + 4 * (t->number % HISTORY), past, 4, &done, &holder), "write");
+    answers(envy_put(&kept, slot, 0, t->number + 1, &holder), "put");
+    answers(envy_commit(&kept, slot), "commit");
+    answers(envy_tick(&kept, &did), "tick");
+    if (is_last) answers(envy_sync(&kept), "sync");
 }
 
 static int64_t kept_sum(void) {
     uint64_t sum = 0, balance;
     for (uint32_t i = 0; i < ACCOUNTS; i++) {
-        answers(envy_kept_load(&kept.memory, AT_ACCOUNT + i, &balance), "load");
+        answers(envy_load(&kept, AT_ACCOUNT + i, &balance), "load");
         sum += balance;
     }
     return (int64_t)sum;
@@ -356,7 +356,7 @@ static int64_t lmdb_sum(void) {
 
 static const engine engines[] = {
     {"disk", disk_open, disk_transfer, NULL},
-#ifdef WITH_KEPT
+#ifdef WITH_ENVY
     {"kept", kept_open, kept_transfer, kept_sum},
     {"kept-bytewise", kept_open_bytewise, kept_transfer, kept_sum},
 #endif

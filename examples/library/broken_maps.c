@@ -3,8 +3,7 @@
    look-ups answer by its pairs.
 
      broken_maps FILE ROUNDS SEED */
-#include "../../c/envy_file.h"
-#include "../../c/envy_map.h"
+#include "../../c/envy.h"
 #include <stdio.h>
 #include <stdlib.h>
 #include <string.h>
@@ -18,7 +17,7 @@ static envy_setup setup = {
     .policy = ENVY_GREEDY, .part = 2, .limit = 100, .mark = 40,
 };
 
-static envy_file file = ENVY_FILE_INIT;
+static envy file = ENVY_INIT;
 static uint64_t words[ALL], after[ALL];
 
 static void must(int holds, const char *what) {
@@ -96,7 +95,7 @@ static int is_map(tree *t, const uint64_t *of) {
 static void put_words(const uint64_t *from, uint32_t address, size_t n) {
     size_t done;
     uint32_t holder;
-    must(envy_mapped_store_run(&file.memory, address, from, n, &done, &holder) == ENVY_DONE, "words are stored");
+    must(envy_store_run(&file, address, from, n, &done, &holder) == ENVY_DONE, "words are stored");
 }
 
 /* A map of drawn pairs, some of them taken out again. */
@@ -105,15 +104,15 @@ static void make_map(uint64_t *seed) {
     envy_old before;
     uint64_t value;
     int changes = (int)(draw(seed) % 500);
-    must(envy_map_begin(&file.memory, &slot) == ENVY_DONE, "begin");
-    must(envy_map_create(&file.memory, slot, &range) == ENVY_DONE, "create");
+    must(envy_map_begin(&file, &slot) == ENVY_DONE, "begin");
+    must(envy_map_create(&file, slot, &range) == ENVY_DONE, "create");
     for (int i = 0; i < changes; i++) {
         uint64_t key = draw(seed) % 300 * 0x00DA740DA740DA74;
-        uint32_t code = draw(seed) % 3 ? envy_map_insert(&file.memory, slot, &range, key, draw(seed), &before)
-                                       : envy_map_remove(&file.memory, slot, &range, key, &value);
+        uint32_t code = draw(seed) % 3 ? envy_map_insert(&file, slot, &range, key, draw(seed), &before)
+                                       : envy_map_remove(&file, slot, &range, key, &value);
         must(code == ENVY_DONE || code == ENVY_ABSENT || code == ENVY_MAP_FULL, "a change");
     }
-    must(envy_map_commit(&file.memory, slot) == ENVY_DONE, "commit");
+    must(envy_map_commit(&file, slot) == ENVY_DONE, "commit");
 }
 
 /* A word that nodes and heads have, so that not every change is seen at the first look. */
@@ -159,19 +158,19 @@ static void looks(uint64_t *seed, const tree *t, int map) {
     static envy_pair pair[MOST];
     size_t count;
     uint64_t number, value, key = draw(seed) % 300 * 0x00DA740DA740DA74;
-    uint32_t code = envy_map_count(&file.memory, &range, &number);
+    uint32_t code = envy_map_count(&file, &range, &number);
     if (map) must(code == ENVY_DONE && number == t->pairs, "count");
     else must(code == ENVY_DONE || code == ENVY_BROKEN_MAP, "count of words that are no map");
-    code = envy_map_get(&file.memory, &range, key, &value);
+    code = envy_map_get(&file, &range, key, &value);
     if (map) {
         size_t i = 0;
         while (i < t->pairs && t->pair[i].key != key) i++;
         must(code == (i < t->pairs ? ENVY_DONE : ENVY_ABSENT) && (code != ENVY_DONE || value == t->pair[i].value), "get");
     } else must(code == ENVY_DONE || code == ENVY_ABSENT || code == ENVY_BROKEN_MAP, "get of words that are no map");
-    code = envy_map_scan(&file.memory, &range, 0, pair, MOST, &count);
+    code = envy_map_scan(&file, &range, 0, pair, MOST, &count);
     if (map) must(code == ENVY_DONE && count == t->pairs && !memcmp(pair, t->pair, count * sizeof *pair), "scan");
     else must(code == ENVY_DONE || code == ENVY_BROKEN_MAP, "scan of words that are no map");
-    code = envy_map_scan_down(&file.memory, &range, key, pair, 1 + draw(seed) % MOST, &count);
+    code = envy_map_scan_down(&file, &range, key, pair, 1 + draw(seed) % MOST, &count);
     must(code == ENVY_DONE || (!map && code == ENVY_BROKEN_MAP), "scan_down");
 }
 
@@ -179,22 +178,22 @@ int main(int n, char **word) {
     static tree t;
     if (n != 4) return 2;
     uint64_t rounds = strtoull(word[2], NULL, 10), seed = strtoull(word[3], NULL, 10), maps = 0, rules[14] = {0};
-    must(envy_file_open(&file, word[1], &setup) == ENVY_DONE, "open");
+    must(envy_open_mapped(&file, word[1], &setup, ENVY_CREATE) == ENVY_DONE, "open");
     for (uint64_t round = 0; round < rounds; round++) {
         if (round % 16 == 0) make_map(&seed);
-        must(envy_mapped_read(&file.memory, 0, words, ALL) == ENVY_DONE, "read");
+        must(envy_read(&file, 0, words, ALL) == ENVY_DONE, "read");
         static uint64_t spoiled[WORDS];
         memcpy(spoiled, words + FIRST, sizeof spoiled);
         spoil(&seed, spoiled);
         put_words(spoiled, FIRST, WORDS);
-        uint32_t rule = 0, code = envy_map_check(&file.memory, &range, &rule);
+        uint32_t rule = 0, code = envy_map_check(&file, &range, &rule);
         int map = is_map(&t, spoiled);
         must(code == (map ? ENVY_DONE : ENVY_BROKEN_MAP), map ? "a map is refused" : "no map is found to be one");
         must(map ? rule == 0 : rule >= 1 && rule <= 13, "the number of a rule");
         if (map) maps++;
         else rules[rule]++;
         looks(&seed, &t, map);
-        must(envy_mapped_read(&file.memory, 0, after, ALL) == ENVY_DONE, "read");
+        must(envy_read(&file, 0, after, ALL) == ENVY_DONE, "read");
         must(!memcmp(after, words, FIRST * sizeof *words) && !memcmp(after + FIRST, spoiled, sizeof spoiled) &&
                  !memcmp(after + FIRST + WORDS, words + FIRST + WORDS, (ALL - FIRST - WORDS) * sizeof *words),
              "a look changes a word");
@@ -203,5 +202,5 @@ int main(int n, char **word) {
     printf("%llu ranges, of which %llu are maps; the rules that the others break:", (unsigned long long)rounds, (unsigned long long)maps);
     for (int i = 1; i <= 13; i++) printf(" %llu", (unsigned long long)rules[i]);
     printf("\n");
-    return envy_file_close(&file);
+    return envy_close(&file);
 }

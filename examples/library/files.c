@@ -1,9 +1,9 @@
-/* What envy_file answers of files that are there or not, locked, cut short, too long, of another shape or foreign, that
+/* What envy answers of files that are there or not, locked, cut short, too long, of another shape or foreign, that
    nothing of a refused file is changed, and that no program which is started has an open one. Each answer is shown by its
    text.
 
      files FILE */
-#include "../../c/envy_file.h"
+#include "../../c/envy.h"
 #include "../../c/envy_text.h"
 #include <fcntl.h>
 #include <signal.h>
@@ -40,10 +40,10 @@ static char *bytes_of(const char *path, size_t *length) {
 
 /* A call on the file answers this code, and leaves each byte. */
 static void refused(const char *path, const envy_setup *by, uint32_t wanted, const char *what) {
-    envy_file f = ENVY_FILE_INIT;
+    envy f = ENVY_INIT;
     size_t length, length_then;
     char *before = bytes_of(path, &length);
-    uint32_t code = envy_file_open(&f, path, by);
+    uint32_t code = envy_open_mapped(&f, path, by, ENVY_CREATE);
     printf("%s: %s\n", what, envy_error_text(code));
     must(code == wanted, "another code was wanted");
     char *after = bytes_of(path, &length_then);
@@ -64,11 +64,20 @@ static void resized(const char *path, off_t length, uint32_t wanted, const char 
 }
 
 static void word_is(const char *path, uint64_t wanted) {
-    envy_file f = ENVY_FILE_INIT;
+    envy f = ENVY_INIT;
     uint64_t word;
-    must(envy_file_open(&f, path, &setup) == ENVY_DONE, "the file doesn't open");
-    must(envy_mapped_load(&f.memory, 9, &word) == ENVY_DONE && word == wanted, "the file lost a word");
-    must(envy_file_close(&f) == ENVY_DONE, "close");
+    must(envy_open_mapped(&f, path, &setup, ENVY_CREATE) == ENVY_DONE, "the file doesn't open");
+    must(envy_load(&f, 9, &word) == ENVY_DONE && word == wanted, "the file lost a word");
+    must(envy_close(&f) == ENVY_DONE, "close");
+}
+
+/* The lowest descriptor of the file at a path, or -1. */
+static int descriptor_of(const char *path) {
+    struct stat wanted, found;
+    if (stat(path, &wanted)) return -1;
+    for (int descriptor = 0; descriptor < 64; descriptor++)
+        if (!fstat(descriptor, &found) && found.st_dev == wanted.st_dev && found.st_ino == wanted.st_ino) return descriptor;
+    return -1;
 }
 
 static void ends_well(pid_t child) {
@@ -79,18 +88,18 @@ static void ends_well(pid_t child) {
 /* A new file has the rights that the umask leaves. No text that is printed comes into a file, if the standard streams are
    closed. */
 static void made_without_streams(const char *path) {
-    envy_file f = ENVY_FILE_INIT;
+    envy f = ENVY_INIT;
     struct stat about;
     uint32_t holder;
     umask(027);
     pid_t child = fork();
     if (child == 0) {
         for (int stream = 0; stream < 3; stream++) close(stream);
-        if (envy_file_open(&f, path, &setup) != ENVY_DONE || f.descriptor < 3) _exit(1);
-        if (envy_mapped_store(&f.memory, 9, 11, &holder) != ENVY_DONE) _exit(2);
+        if (envy_open_mapped(&f, path, &setup, ENVY_CREATE) != ENVY_DONE || descriptor_of(path) < 3) _exit(1);
+        if (envy_store(&f, 9, 11, &holder) != ENVY_DONE) _exit(2);
         printf("a text for standard output\n");
         fflush(stdout);
-        _exit(envy_file_close(&f) == ENVY_DONE ? 0 : 3);
+        _exit(envy_close(&f) == ENVY_DONE ? 0 : 3);
     }
     ends_well(child);
     must(!stat(path, &about) && (about.st_mode & 0777) == 0640, "a new file has other rights");
@@ -99,10 +108,10 @@ static void made_without_streams(const char *path) {
 
 /* A process that was forked off gives up no lock, and a file that was closed isn't locked while such a process lives. */
 static void closed_while_forked(const char *path) {
-    envy_file f = ENVY_FILE_INIT;
-    must(envy_file_open(&f, path, &setup) == ENVY_DONE, "the file doesn't open");
+    envy f = ENVY_INIT;
+    must(envy_open_mapped(&f, path, &setup, ENVY_CREATE) == ENVY_DONE, "the file doesn't open");
     pid_t child = fork();
-    if (child == 0) _exit(envy_file_close(&f) == ENVY_DONE ? 0 : 1);
+    if (child == 0) _exit(envy_close(&f) == ENVY_DONE ? 0 : 1);
     ends_well(child);
     refused(path, &setup, ENVY_LOCKED, "closed by a process that was forked off");
     fflush(stdout);
@@ -110,7 +119,7 @@ static void closed_while_forked(const char *path) {
         pause();
         _exit(0);
     }
-    must(envy_file_close(&f) == ENVY_DONE, "close");
+    must(envy_close(&f) == ENVY_DONE, "close");
     word_is(path, 11);
     kill(child, SIGKILL);
     waitpid(child, NULL, 0);
@@ -133,11 +142,11 @@ static int is_handed_on(const char *path) {
 /* A program that is started while a file is open, one that was made or one that was there, doesn't have it. */
 static void not_handed_on(const char *path) {
     for (int there = 0; there < 2; there++) {
-        envy_file f = ENVY_FILE_INIT;
-        must(envy_file_open(&f, path, &setup) == ENVY_DONE, "the file doesn't open");
+        envy f = ENVY_INIT;
+        must(envy_open_mapped(&f, path, &setup, ENVY_CREATE) == ENVY_DONE, "the file doesn't open");
         must(!is_handed_on(path), "a program that was started has the file");
-        must(!fcntl(f.descriptor, F_SETFD, 0) && is_handed_on(path), "a file that is handed on isn't found");
-        must(envy_file_close(&f) == ENVY_DONE, "close");
+        must(!fcntl(descriptor_of(path), F_SETFD, 0) && is_handed_on(path), "a file that is handed on isn't found");
+        must(envy_close(&f) == ENVY_DONE, "close");
     }
     must(!unlink(path), "unlink");
 }
@@ -145,12 +154,12 @@ static void not_handed_on(const char *path) {
 int main(int words, char **word) {
     if (words != 2) return 2;
     const char *path = word[1];
-    envy_file f = ENVY_FILE_INIT;
+    envy f = ENVY_INIT;
     uint32_t holder;
-    must(envy_file_close(&f) == ENVY_DONE, "a place without a file doesn't close");
-    must(envy_file_open(&f, path, &setup) == ENVY_DONE, "no file is made");
-    must(envy_mapped_store(&f.memory, 9, 11, &holder) == ENVY_DONE, "store");
-    must(envy_file_sync(&f) == ENVY_DONE, "sync");
+    must(envy_close(&f) == ENVY_DONE, "a place without a file doesn't close");
+    must(envy_open_mapped(&f, path, &setup, ENVY_CREATE) == ENVY_DONE, "no file is made");
+    must(envy_store(&f, 9, 11, &holder) == ENVY_DONE, "store");
+    must(envy_sync(&f) == ENVY_DONE, "sync");
     refused(path, &setup, ENVY_LOCKED, "open in this process");
     fflush(stdout);
     pid_t child = fork();
@@ -160,7 +169,7 @@ int main(int words, char **word) {
         _exit(0);
     }
     ends_well(child);
-    must(envy_file_close(&f) == ENVY_DONE, "close");
+    must(envy_close(&f) == ENVY_DONE, "close");
     word_is(path, 11);
     must(!unlink(path), "unlink");
     not_handed_on(path);
@@ -185,7 +194,7 @@ int main(int words, char **word) {
     must(!truncate(path, 0) && !truncate(path, (off_t)full), "truncate");
     refused(path, &setup, ENVY_UNFORMATTED, "zeros");
 
-    must(envy_file_open(&f, "/nowhere/at/all", &setup) == ENVY_SYSTEM, "a file is made nowhere");
+    must(envy_open_mapped(&f, "/nowhere/at/all", &setup, ENVY_CREATE) == ENVY_SYSTEM, "a file is made nowhere");
     printf("no such folder: %s\n", envy_error_text(ENVY_SYSTEM));
     for (uint32_t a = 0; a <= ENVY_MAP_SETUP; a++)
         for (uint32_t b = 0; b < a; b++) must(strcmp(envy_error_text(a), envy_error_text(b)), "two codes share a text");

@@ -2,7 +2,7 @@
    save` wrote, one to a line. Its own image of the same memory goes into TO.
 
      images FROM TO */
-#include "../../c/envy_sim.h"
+#include "../../c/envy.h"
 #include <stdio.h>
 #include <stdlib.h>
 #include <string.h>
@@ -17,7 +17,7 @@ static const envy_setup setup = {
     .policy = ENVY_GREEDY, .part = 2, .limit = 100, .mark = 8,
 };
 
-static envy_sim memory = ENVY_SIM_INIT, other = ENVY_SIM_INIT;
+static envy memory = ENVY_INIT, other = ENVY_INIT;
 static uint8_t whole[SIZE + 8], changed[SIZE + 8], kept[SIZE + 8];
 static uint64_t stored[WORDS];
 
@@ -29,17 +29,17 @@ static void want(int line, uint64_t found, uint64_t wanted) {
 #define WANT(found, wanted) want(__LINE__, found, wanted)
 
 /* Each word is as it was committed, and no transaction is open. */
-static void holds(int line, envy_sim *m) {
+static void holds(int line, envy *m) {
     uint64_t loaded, looked;
     for (uint32_t a = 0; a < WORDS; a++) {
-        want(line, envy_sim_load(m, a, &loaded), ENVY_DONE);
-        want(line, envy_sim_look(m, a, &looked), ENVY_DONE);
+        want(line, envy_load(m, a, &loaded), ENVY_DONE);
+        want(line, envy_look(m, a, &looked), ENVY_DONE);
         want(line, loaded == stored[a] && looked == stored[a], 1);
     }
     uint32_t slot = 99;
-    want(line, envy_sim_begin(m, &slot), ENVY_DONE);
+    want(line, envy_begin(m, &slot), ENVY_DONE);
     want(line, slot, 0);
-    want(line, envy_sim_abort(m, slot), ENVY_DONE);
+    want(line, envy_abort(m, slot), ENVY_DONE);
 }
 
 /* Restoring the first n of the changed bytes gives this code, and leaves them and the place. */
@@ -48,10 +48,9 @@ static void refuses(int line, const envy_setup *given, size_t n, uint32_t code) 
     uint8_t *bytes = malloc(n ? n : 1);
     uint64_t word = 77;
     memcpy(bytes, changed, n);
-    envy_bytes image = {bytes, n};
-    want(line, envy_sim_restore(&other, given, 5, &image), code);
-    want(line, image.at == bytes && image.len == n && memcmp(bytes, changed, n) == 0, 1);
-    want(line, envy_sim_load(&other, 0, &word), ENVY_EMPTY);
+    want(line, envy_restore(&other, given, 5, bytes, n), code);
+    want(line, memcmp(bytes, changed, n) == 0, 1);
+    want(line, envy_load(&other, 0, &word), ENVY_EMPTY);
     want(line, word, 77);
     free(bytes);
     memcpy(changed, whole, SIZE);
@@ -86,9 +85,8 @@ static void heads(void) {
     };
     for (int i = 0; i < 11; i++) {
         envy_setup read = setup;
-        envy_bytes head = {changed, 32};
         set_head(bad[i][0], bad[i][1]);
-        WANT(envy_sim_image_shape(&head, &read), bad[i][2]);
+        WANT(envy_image_shape(changed, 32, &read), bad[i][2]);
         WANT(memcmp(&read, &setup, sizeof setup), 0);
         REFUSES(bad[i][2]);
     }
@@ -135,18 +133,17 @@ static void boards(void) {
 
 static void shapes(void) {
     envy_setup read = {.policy = 2, .part = 3, .limit = 4, .mark = 5};
-    envy_bytes image = {whole, SIZE};
-    WANT(envy_sim_image_shape(&image, &read), ENVY_DONE);
+    WANT(envy_image_shape(whole, SIZE, &read), ENVY_DONE);
     WANT(memcmp(&read, &setup, 6 * sizeof(uint32_t)), 0);
     WANT(read.policy == 2 && read.part == 3 && read.limit == 4 && read.mark == 5, 1);
     uint64_t size = 0;
-    WANT(envy_sim_image_size(&setup, &size), ENVY_DONE);
+    WANT(envy_image_size(&setup, &size), ENVY_DONE);
     WANT(size, SIZE);
     read.policy = 5;
-    WANT(envy_sim_image_size(&read, &size), ENVY_POLICY);
+    WANT(envy_image_size(&read, &size), ENVY_POLICY);
     read = setup;
     read.rows = 1;
-    WANT(envy_sim_image_size(&read, &size), ENVY_SETUP_ROWS);
+    WANT(envy_image_size(&read, &size), ENVY_SETUP_ROWS);
     WANT(size, SIZE);
 }
 
@@ -156,28 +153,25 @@ static void work(void) {
     for (uint32_t i = 0; i < 6000; i++) {
         uint32_t a = i * 797 % WORDS;
         stored[a] = i;
-        WANT(envy_sim_store(&memory, a, i, &holder), ENVY_DONE);
+        WANT(envy_store(&memory, a, i, &holder), ENVY_DONE);
     }
-    WANT(envy_sim_begin(&memory, &slot), ENVY_DONE);
-    for (uint32_t p = 0; p < 10; p++) WANT(envy_sim_put(&memory, slot, 32 * p, 12345, &holder), ENVY_DONE);
+    WANT(envy_begin(&memory, &slot), ENVY_DONE);
+    for (uint32_t p = 0; p < 10; p++) WANT(envy_put(&memory, slot, 32 * p, 12345, &holder), ENVY_DONE);
 }
 
 static void saved(void) {
-    envy_bytes image = {whole, SIZE - 1};
     memset(whole, 0xA5, sizeof whole);
     memset(kept, 0xA5, sizeof kept);
-    WANT(envy_sim_save(&memory, &image), ENVY_SMALL);
+    WANT(envy_save(&memory, whole, SIZE - 1), ENVY_SMALL);
     WANT(memcmp(whole, kept, sizeof whole), 0);
-    WANT(envy_sim_cut_now(&memory), ENVY_DONE);
-    image.len = SIZE + 8;
-    WANT(envy_sim_save(&memory, &image), ENVY_OFF);
+    WANT(envy_cut_now(&memory), ENVY_DONE);
+    WANT(envy_save(&memory, whole, SIZE + 8), ENVY_OFF);
     WANT(memcmp(whole, kept, sizeof whole), 0);
-    WANT(envy_sim_save(&other, &image), ENVY_EMPTY);
+    WANT(envy_save(&other, whole, SIZE + 8), ENVY_EMPTY);
     WANT(memcmp(whole, kept, sizeof whole), 0);
-    WANT(envy_sim_revive(&memory), ENVY_DONE);
+    WANT(envy_revive(&memory), ENVY_DONE);
     work();
-    WANT(envy_sim_save(&memory, &image), ENVY_DONE);
-    WANT(image.at == whole && image.len == SIZE + 8, 1);
+    WANT(envy_save(&memory, whole, SIZE + 8), ENVY_DONE);
     WANT(memcmp(whole, "eNVyIMG1\x08\0\0\0\x10\0\0\0\x40\0\0\0\x10\0\0\0\x08\0\0\0\x04\0\0", 32), 0);
     /* nothing behind it was written */
     WANT(memcmp(whole + SIZE, kept + SIZE, 8), 0);
@@ -186,51 +180,48 @@ static void saved(void) {
 
 static void restored(void) {
     uint32_t lives = 0;
-    envy_bytes image = {whole, SIZE + 8};
     memcpy(kept, whole, sizeof whole);
-    WANT(envy_sim_restore(&memory, &setup, 5, &image), ENVY_OPEN);
-    WANT(envy_sim_restore(&other, &setup, 5, &image), ENVY_DONE);
+    WANT(envy_restore(&memory, &setup, 5, whole, SIZE + 8), ENVY_OPEN);
+    WANT(envy_restore(&other, &setup, 5, whole, SIZE + 8), ENVY_DONE);
     WANT(memcmp(kept, whole, sizeof whole), 0);
-    WANT(envy_sim_lives(&other, &lives), ENVY_DONE);
+    WANT(envy_lives(&other, &lives), ENVY_DONE);
     WANT(lives, 5);
     holds(__LINE__, &other);
     /* the first memory goes on with its own board, and its transaction is open still */
-    WANT(envy_sim_commit(&memory, 0), ENVY_DONE);
+    WANT(envy_commit(&memory, 0), ENVY_DONE);
     holds(__LINE__, &other);
-    envy_sim_close(&other);
-    image.len = SIZE;
+    envy_close(&other);
     envy_setup hybrid = setup;
     hybrid.policy = ENVY_HYBRID;
-    WANT(envy_sim_restore(&other, &hybrid, 0, &image), ENVY_DONE);
+    WANT(envy_restore(&other, &hybrid, 0, whole, SIZE), ENVY_DONE);
     holds(__LINE__, &other);
-    WANT(envy_sim_cut_now(&other), ENVY_DONE);
-    WANT(envy_sim_revive(&other), ENVY_DEAD);
-    envy_sim_close(&other);
+    WANT(envy_cut_now(&other), ENVY_DONE);
+    WANT(envy_revive(&other), ENVY_DEAD);
+    envy_close(&other);
 }
 
 int main(int words, char **word) {
     if (words != 3) return 2;
-    WANT(envy_sim_new(&memory), ENVY_DONE);
-    WANT(envy_sim_new(&other), ENVY_DONE);
-    WANT(envy_sim_format(&memory, &setup, 1), ENVY_DONE);
+    WANT(envy_new(&memory), ENVY_DONE);
+    WANT(envy_new(&other), ENVY_DONE);
+    WANT(envy_open_sim(&memory, &setup, 1), ENVY_DONE);
     saved();
     restored();
     shapes();
     heads();
     boards();
-    envy_sim_close(&memory);
+    envy_close(&memory);
 
     FILE *from = fopen(word[1], "rb"), *to = fopen(word[2], "wb");
     if (!from || !to || fread(whole, 1, SIZE, from) != SIZE || fgetc(from) != EOF) return 1;
-    envy_bytes image = {whole, SIZE};
-    WANT(envy_sim_restore(&memory, &setup, 0, &image), ENVY_DONE);
+    WANT(envy_restore(&memory, &setup, 0, whole, SIZE), ENVY_DONE);
     for (uint32_t a = 0; a < WORDS; a++) {
         uint64_t found;
-        WANT(envy_sim_load(&memory, a, &found), ENVY_DONE);
+        WANT(envy_load(&memory, a, &found), ENVY_DONE);
         printf("%llu\n", (unsigned long long)found);
     }
-    WANT(envy_sim_save(&memory, &image), ENVY_DONE);
+    WANT(envy_save(&memory, whole, SIZE), ENVY_DONE);
     if (fwrite(whole, 1, SIZE, to) != SIZE || fclose(to) || fclose(from)) return 1;
-    envy_sim_close(&memory);
+    envy_close(&memory);
     return 0;
 }

@@ -3,8 +3,7 @@
    files than can be open, and a limit of length.
 
      kept_edges FOLDER */
-#include "../../c/envy_kept_file.h"
-#include "../../c/envy_kept_index.h"
+#include "../../c/envy.h"
 #include <errno.h>
 #include <fcntl.h>
 #include <signal.h>
@@ -30,23 +29,23 @@ static void want(int line, uint64_t found, uint64_t wanted) {
 }
 #define WANT(found, wanted) want(__LINE__, (uint64_t)(found), (uint64_t)(wanted))
 
-static void store(envy_kept_file *f, uint32_t address, uint64_t word) {
+static void store(envy *f, uint32_t address, uint64_t word) {
     uint32_t holder;
-    WANT(envy_kept_store(&f->memory, address, word, &holder), ENVY_DONE);
+    WANT(envy_store(f, address, word, &holder), ENVY_DONE);
 }
 
-static uint64_t word_at(envy_kept_file *f, uint32_t address) {
+static uint64_t word_at(envy *f, uint32_t address) {
     uint64_t word;
-    WANT(envy_kept_load(&f->memory, address, &word), ENVY_DONE);
+    WANT(envy_load(f, address, &word), ENVY_DONE);
     return word;
 }
 
 /* What a file holds at address 5 when it is opened again. */
 static uint64_t kept_in(const char *path) {
-    envy_kept_file f = ENVY_KEPT_FILE_INIT;
-    WANT(envy_kept_open_file(&f, path, &setup), ENVY_DONE);
+    envy f = ENVY_INIT;
+    WANT(envy_open_file(&f, path, &setup, ENVY_CREATE), ENVY_DONE);
     uint64_t word = word_at(&f, 5);
-    WANT(envy_kept_close_file(&f), ENVY_DONE);
+    WANT(envy_close(&f), ENVY_DONE);
     return word;
 }
 
@@ -66,34 +65,34 @@ static int is_text(const char *path, const char *text) {
 }
 
 static void never_made(void) {
-    envy_kept m = ENVY_KEPT_INIT;
+    envy m = ENVY_INIT;
     uint64_t word = 7;
     uint32_t number;
     size_t done = 7;
     envy_counts counts;
     envy_pair pair;
-    WANT(envy_kept_load(&m, 0, &word), ENVY_EMPTY);
-    WANT(envy_kept_look(&m, 0, &word), ENVY_EMPTY);
-    WANT(envy_kept_view(&m, 0, 0, &word), ENVY_EMPTY);
-    WANT(envy_kept_read(&m, 0, &word, 1), ENVY_EMPTY);
-    WANT(envy_kept_store(&m, 0, 1, &number), ENVY_EMPTY);
-    WANT(envy_kept_begin(&m, &number), ENVY_EMPTY);
-    WANT(envy_kept_put(&m, 0, 0, 1, &number), ENVY_EMPTY);
-    WANT(envy_kept_write(&m, 0, 0, &word, 1, &done, &number), ENVY_EMPTY);
+    WANT(envy_load(&m, 0, &word), ENVY_EMPTY);
+    WANT(envy_look(&m, 0, &word), ENVY_EMPTY);
+    WANT(envy_view(&m, 0, 0, &word), ENVY_EMPTY);
+    WANT(envy_read(&m, 0, &word, 1), ENVY_EMPTY);
+    WANT(envy_store(&m, 0, 1, &number), ENVY_EMPTY);
+    WANT(envy_begin(&m, &number), ENVY_EMPTY);
+    WANT(envy_put(&m, 0, 0, 1, &number), ENVY_EMPTY);
+    WANT(envy_write(&m, 0, 0, &word, 1, &done, &number), ENVY_EMPTY);
     WANT(done, 0);
     done = 7;
-    WANT(envy_kept_store_run(&m, 0, &word, 1, &done, &number), ENVY_EMPTY);
-    WANT(envy_kept_commit(&m, 0), ENVY_EMPTY);
-    WANT(envy_kept_abort(&m, 0), ENVY_EMPTY);
-    WANT(envy_kept_tick(&m, &number), ENVY_EMPTY);
-    WANT(envy_kept_counts(&m, &counts), ENVY_EMPTY);
-    WANT(envy_kept_sync(&m), ENVY_EMPTY);
-    WANT(envy_kept_compact(&m), ENVY_EMPTY);
-    WANT(envy_kept_powered(&m), ENVY_EMPTY);
-    WANT(envy_kept_index_count(&m, &word), ENVY_EMPTY);
-    WANT(envy_kept_index_next(&m, 0, &pair), ENVY_EMPTY);
-    WANT(envy_kept_open(&m, &setup, (const uint8_t *)"", 0, 0), ENVY_EMPTY);
-    envy_kept_close(&m);
+    WANT(envy_store_run(&m, 0, &word, 1, &done, &number), ENVY_EMPTY);
+    WANT(envy_commit(&m, 0), ENVY_EMPTY);
+    WANT(envy_abort(&m, 0), ENVY_EMPTY);
+    WANT(envy_tick(&m, &number), ENVY_EMPTY);
+    WANT(envy_counters(&m, &counts), ENVY_EMPTY);
+    WANT(envy_sync(&m), ENVY_EMPTY);
+    WANT(envy_compact(&m), ENVY_EMPTY);
+    WANT(envy_powered(&m), ENVY_EMPTY);
+    WANT(envy_index_count(&m, &word), ENVY_EMPTY);
+    WANT(envy_index_next(&m, 0, &pair), ENVY_EMPTY);
+    WANT(envy_open_port(&m, &setup, (const uint8_t *)"", 0, 0, 0), ENVY_EMPTY);
+    envy_close(&m);
     WANT(word, 7);
     WANT(done, 0);
 }
@@ -106,25 +105,34 @@ static void passed(int line, pid_t child) {
 }
 #define PASSED(child) passed(__LINE__, child)
 
+/* The lowest descriptor of the file at a path, or -1. */
+static int descriptor_of(const char *path) {
+    struct stat wanted, found;
+    if (stat(path, &wanted)) return -1;
+    for (int descriptor = 0; descriptor < 64; descriptor++)
+        if (!fstat(descriptor, &found) && found.st_dev == wanted.st_dev && found.st_ino == wanted.st_ino) return descriptor;
+    return -1;
+}
+
 /* A program whose standard streams are closed, in any combination, and which prints all the same. */
 static void prints(unsigned closed) {
-    envy_kept_file f = ENVY_KEPT_FILE_INIT;
+    envy f = ENVY_INIT;
     for (int stream = 0; stream < 3; stream++)
         if (closed >> stream & 1) close(stream);
-    WANT(envy_kept_open_file(&f, "streams", &setup), ENVY_DONE);
-    WANT(f.descriptor > 2, 1);
+    WANT(envy_open_file(&f, "streams", &setup, ENVY_CREATE), ENVY_DONE);
+    WANT(descriptor_of("streams") > 2, 1);
     store(&f, 5, closed);
-    WANT(envy_kept_sync(&f.memory), ENVY_DONE);
+    WANT(envy_sync(&f), ENVY_DONE);
     for (int i = 0; i < 100; i++) {
         printf("a text for standard output\n");
         fprintf(stderr, "%s", closed & 4 ? "a text for standard error\n" : "");
     }
     fflush(stdout);
-    WANT(envy_kept_compact(&f.memory), ENVY_DONE);
-    WANT(f.descriptor > 2, 1);
+    WANT(envy_compact(&f), ENVY_DONE);
+    WANT(descriptor_of("streams") > 2, 1);
     printf("a text for standard output\n");
     fflush(stdout);
-    WANT(envy_kept_close_file(&f), ENVY_DONE);
+    WANT(envy_close(&f), ENVY_DONE);
     _exit(0);
 }
 
@@ -144,50 +152,50 @@ static void closed_streams(void) {
 }
 
 /* A process that was forked off works on its copy of the memory, and closes it. */
-static void works_on_a_copy(envy_kept_file *f) {
+static void works_on_a_copy(envy *f) {
     uint32_t holder;
     for (uint64_t n = 0; n < 20000; n++) {
-        uint32_t code = envy_kept_store(&f->memory, 5, 1000 + n, &holder);
+        uint32_t code = envy_store(f, 5, 1000 + n, &holder);
         if (code == ENVY_OFF) break;
         WANT(code, ENVY_DONE);
     }
-    WANT(envy_kept_sync(&f->memory), ENVY_OFF);
-    WANT(envy_kept_compact(&f->memory), ENVY_OFF);
-    WANT(envy_kept_close_file(f), ENVY_OFF);
+    WANT(envy_sync(f), ENVY_OFF);
+    WANT(envy_compact(f), ENVY_OFF);
+    WANT(envy_file_error(f), EPERM);
+    WANT(envy_close(f), ENVY_OFF);
     WANT(errno, EPERM);
-    WANT(envy_kept_file_error(f), EPERM);
     _exit(0);
 }
 
 static void forked(void) {
-    envy_kept_file f = ENVY_KEPT_FILE_INIT, g = ENVY_KEPT_FILE_INIT;
-    WANT(envy_kept_open_file(&f, "forked", &setup), ENVY_DONE);
+    envy f = ENVY_INIT, g = ENVY_INIT;
+    WANT(envy_open_file(&f, "forked", &setup, ENVY_CREATE), ENVY_DONE);
     for (uint64_t n = 1; n <= 40; n++) {
         store(&f, 5, n);
         pid_t child = fork();
         if (!child && n % 2) works_on_a_copy(&f);
         if (!child) {
             /* as a destructor does, and nothing else */
-            WANT(envy_kept_close_file(&f), ENVY_OFF);
+            WANT(envy_close(&f), ENVY_OFF);
             _exit(0);
         }
         store(&f, 5, 100 + n);
-        WANT(n % 5 ? envy_kept_sync(&f.memory) : envy_kept_compact(&f.memory), ENVY_DONE);
+        WANT(n % 5 ? envy_sync(&f) : envy_compact(&f), ENVY_DONE);
         PASSED(child);
         store(&f, 6, n);
-        WANT(envy_kept_sync(&f.memory), ENVY_DONE);
-        WANT(envy_kept_open_file(&g, "forked", &setup), ENVY_LOCKED);
+        WANT(envy_sync(&f), ENVY_DONE);
+        WANT(envy_open_file(&g, "forked", &setup, ENVY_CREATE), ENVY_LOCKED);
     }
-    WANT(envy_kept_close_file(&f), ENVY_DONE);
+    WANT(envy_close(&f), ENVY_DONE);
     WANT(kept_in("forked"), 140);
     /* a file that was closed isn't locked while such a process lives */
-    WANT(envy_kept_open_file(&f, "forked", &setup), ENVY_DONE);
+    WANT(envy_open_file(&f, "forked", &setup, ENVY_CREATE), ENVY_DONE);
     pid_t child = fork();
     if (!child) {
         pause();
         _exit(0);
     }
-    WANT(envy_kept_close_file(&f), ENVY_DONE);
+    WANT(envy_close(&f), ENVY_DONE);
     WANT(kept_in("forked"), 140);
     kill(child, SIGKILL);
     waitpid(child, NULL, 0);
@@ -195,17 +203,17 @@ static void forked(void) {
 
 /* A file that is moved while it is open goes on where it is, and another one at its old path stays as it is. */
 static void moved(void) {
-    envy_kept_file f = ENVY_KEPT_FILE_INIT;
-    WANT(envy_kept_open_file(&f, "moved", &setup), ENVY_DONE);
+    envy f = ENVY_INIT;
+    WANT(envy_open_file(&f, "moved", &setup, ENVY_CREATE), ENVY_DONE);
     store(&f, 5, 1);
-    WANT(envy_kept_sync(&f.memory), ENVY_DONE);
+    WANT(envy_sync(&f), ENVY_DONE);
     WANT(rename("moved", "away"), 0);
     make("moved", "another file", 0600);
     store(&f, 5, 2);
-    WANT(envy_kept_compact(&f.memory), ENVY_APPENDED);
+    WANT(envy_compact(&f), ENVY_APPENDED);
     WANT(errno, ENOENT);
     store(&f, 5, 3);
-    WANT(envy_kept_close_file(&f), ENVY_DONE);
+    WANT(envy_close(&f), ENVY_DONE);
     WANT(is_text("moved", "another file"), 1);
     WANT(access("moved.envy-new", F_OK), -1);
     WANT(kept_in("away"), 3);
@@ -214,17 +222,17 @@ static void moved(void) {
 /* A name that somebody else has is left: a file, a link to nothing, a folder. What a process that was killed left is
    removed. */
 static void names(void) {
-    envy_kept_file f = ENVY_KEPT_FILE_INIT;
+    envy f = ENVY_INIT;
     struct stat link;
     make("names.envy-new", "somebody's file", 0600);
     WANT(symlink("nowhere", "names.envy-new1"), 0);
     WANT(mkdir("names.envy-new2", 0700), 0);
     make("names.envy-new3", "left by a process that was killed", S_ISVTX | 0600);
-    WANT(envy_kept_open_file(&f, "names", &setup), ENVY_DONE);
+    WANT(envy_open_file(&f, "names", &setup, ENVY_CREATE), ENVY_DONE);
     WANT(access("names.envy-new3", F_OK), -1);
     store(&f, 5, 7);
-    WANT(envy_kept_compact(&f.memory), ENVY_DONE);
-    WANT(envy_kept_close_file(&f), ENVY_DONE);
+    WANT(envy_compact(&f), ENVY_DONE);
+    WANT(envy_close(&f), ENVY_DONE);
     WANT(is_text("names.envy-new", "somebody's file"), 1);
     WANT(lstat("names.envy-new1", &link), 0);
     WANT(S_ISLNK(link.st_mode), 1);
@@ -237,11 +245,11 @@ static void names(void) {
 
 /* A folder in which nothing may be made, and a name to which nothing can be added, are told at once. */
 static void no_second(void) {
-    envy_kept_file f = ENVY_KEPT_FILE_INIT;
+    envy f = ENVY_INIT;
     char name[256];
     memset(name, 'n', 250);
     name[250] = 0;
-    WANT(envy_kept_open_file(&f, name, &setup), ENVY_SYSTEM);
+    WANT(envy_open_file(&f, name, &setup, ENVY_CREATE), ENVY_SYSTEM);
     WANT(errno, ENAMETOOLONG);
     WANT(access(name, F_OK), -1);
     WANT(mkdir("bare", 0777), 0);
@@ -251,7 +259,7 @@ static void no_second(void) {
     if (!child) {
         if (!getuid() && setuid(65534)) _exit(1);
         /* (if the folder above can't be entered either, the error is the same) */
-        WANT(envy_kept_open_file(&f, "bare/file", &setup), ENVY_SYSTEM);
+        WANT(envy_open_file(&f, "bare/file", &setup, ENVY_CREATE), ENVY_SYSTEM);
         WANT(errno, EACCES);
         _exit(0);
     }
@@ -260,22 +268,22 @@ static void no_second(void) {
 
 /* More files than can be open at a time are told as that. */
 static void too_many(void) {
-    static envy_kept_file files[ENVY_DISKS + 1];
+    static envy files[ENVY_DISKS + 1];
     char name[32];
     for (int i = 0; i <= ENVY_DISKS; i++) {
-        files[i] = (envy_kept_file)ENVY_KEPT_FILE_INIT;
+        files[i] = (envy)ENVY_INIT;
         snprintf(name, sizeof name, "many%d", i);
-        WANT(envy_kept_open_file(&files[i], name, &setup), i < ENVY_DISKS ? ENVY_DONE : ENVY_TOO_MANY);
+        WANT(envy_open_file(&files[i], name, &setup, ENVY_CREATE), i < ENVY_DISKS ? ENVY_DONE : ENVY_TOO_MANY);
     }
-    for (int i = 0; i < ENVY_DISKS; i++) WANT(envy_kept_close_file(&files[i]), ENVY_DONE);
-    WANT(envy_kept_open_file(&files[ENVY_DISKS], name, &setup), ENVY_DONE);
-    WANT(envy_kept_close_file(&files[ENVY_DISKS]), ENVY_DONE);
+    for (int i = 0; i < ENVY_DISKS; i++) WANT(envy_close(&files[i]), ENVY_DONE);
+    WANT(envy_open_file(&files[ENVY_DISKS], name, &setup, ENVY_CREATE), ENVY_DONE);
+    WANT(envy_close(&files[ENVY_DISKS]), ENVY_DONE);
 }
 
 /* Stores without a sync: what isn't synced is written anew, so that the file stays short. */
 static void never_synced(void) {
-    envy_kept_file f = ENVY_KEPT_FILE_INIT;
-    WANT(envy_kept_open_file(&f, "unsynced", &setup), ENVY_DONE);
+    envy f = ENVY_INIT;
+    WANT(envy_open_file(&f, "unsynced", &setup, ENVY_CREATE), ENVY_DONE);
     struct stat found;
     off_t longest = 0;
     for (uint32_t i = 0; i < 200000; i++) {
@@ -285,53 +293,53 @@ static void never_synced(void) {
         if (found.st_size > longest) longest = found.st_size;
     }
     WANT(longest < 4 << 20, 1);
-    WANT(envy_kept_close_file(&f), ENVY_DONE);
-    WANT(envy_kept_open_file(&f, "unsynced", &setup), ENVY_DONE);
+    WANT(envy_close(&f), ENVY_DONE);
+    WANT(envy_open_file(&f, "unsynced", &setup, ENVY_CREATE), ENVY_DONE);
     WANT(word_at(&f, 199999u * 7919u % 384), 199999);
-    WANT(envy_kept_close_file(&f), ENVY_DONE);
+    WANT(envy_close(&f), ENVY_DONE);
 }
 
 /* Of a long file of another kind the head is read, and nothing is made beside it. */
 static void another_kind(void) {
-    envy_kept_file f = ENVY_KEPT_FILE_INIT;
+    envy f = ENVY_INIT;
     make("foreign", "a text of another kind", 0644);
     WANT(truncate("foreign", (off_t)1 << 40), 0);
-    WANT(envy_kept_open_file(&f, "foreign", &setup), ENVY_NO_JOURNAL);
+    WANT(envy_open_file(&f, "foreign", &setup, ENVY_CREATE), ENVY_NO_JOURNAL);
     WANT(access("foreign.envy-cut", F_OK), (uint64_t)-1);
     WANT(unlink("foreign"), 0);
 }
 
 /* Turns the first gate of a journal: what follows looks like a sync that is cut off. A file that is refused isn't copied. */
 static void refused(void) {
-    envy_kept_file f = ENVY_KEPT_FILE_INIT;
+    envy f = ENVY_INIT;
     envy_setup other = setup;
     other.rows = 9;
-    WANT(envy_kept_open_file(&f, "turned", &setup), ENVY_DONE);
+    WANT(envy_open_file(&f, "turned", &setup, ENVY_CREATE), ENVY_DONE);
     store(&f, 5, 7);
-    WANT(envy_kept_close_file(&f), ENVY_DONE);
+    WANT(envy_close(&f), ENVY_DONE);
     int descriptor = open("turned", O_WRONLY);
     WANT(pwrite(descriptor, "", 1, 33), 1);
     WANT(close(descriptor), 0);
-    WANT(envy_kept_open_file(&f, "turned", &other) != ENVY_DONE, 1);
+    WANT(envy_open_file(&f, "turned", &other, ENVY_CREATE) != ENVY_DONE, 1);
     WANT(access("turned.envy-cut", F_OK), (uint64_t)-1);
-    WANT(envy_kept_open_file(&f, "turned", &setup), ENVY_DONE);
+    WANT(envy_open_file(&f, "turned", &setup, ENVY_CREATE), ENVY_DONE);
     WANT(access("turned.envy-cut", F_OK), 0);
-    WANT(envy_kept_close_file(&f), ENVY_DONE);
+    WANT(envy_close(&f), ENVY_DONE);
 }
 
 /* The setup that a file was made with, before it is opened. What is no such file is told by its code. */
 static void shapes(void) {
-    envy_kept_file *f = envy_kept_file_new();
+    envy f = ENVY_INIT;
     envy_setup found = {.segments = 1};
-    WANT(envy_kept_file_shape("shaped", &found), ENVY_SYSTEM);
+    WANT(envy_file_shape("shaped", &found), ENVY_SYSTEM);
     WANT(errno, ENOENT);
-    WANT(envy_kept_file_shape(".", &found), ENVY_SYSTEM);
+    WANT(envy_file_shape(".", &found), ENVY_SYSTEM);
     make("shaped", "", 0644);
-    WANT(envy_kept_file_shape("shaped", &found), ENVY_NO_JOURNAL);
+    WANT(envy_file_shape("shaped", &found), ENVY_NO_JOURNAL);
     WANT(unlink("shaped"), 0);
-    WANT(envy_kept_open_file(f, "shaped", &setup), ENVY_DONE);
+    WANT(envy_open_file(&f, "shaped", &setup, ENVY_CREATE), ENVY_DONE);
     WANT(found.segments, 1);
-    WANT(envy_kept_file_shape("shaped", &found), ENVY_DONE);
+    WANT(envy_file_shape("shaped", &found), ENVY_DONE);
     WANT(found.segments, setup.segments);
     WANT(found.rows, setup.rows);
     WANT(found.pages, setup.pages);
@@ -341,21 +349,19 @@ static void shapes(void) {
     WANT(found.policy, ENVY_GREEDY);
     WANT(found.limit, 100);
     WANT(found.mark, setup.frames);
-    /* (the handle of the memory is at the address of the place) */
-    WANT(envy_kept_powered((envy_kept *)f), ENVY_DONE);
-    WANT(envy_kept_close_file(f), ENVY_DONE);
-    WANT(envy_kept_open_file(f, "shaped", &found), ENVY_DONE);
-    WANT(envy_kept_close_file(f), ENVY_DONE);
+    WANT(envy_close(&f), ENVY_DONE);
+    WANT(envy_open_file(&f, "shaped", &found, ENVY_CREATE), ENVY_DONE);
+    WANT(envy_close(&f), ENVY_DONE);
     int descriptor = open("shaped", O_WRONLY);
     WANT(pwrite(descriptor, "\t", 1, 8), 1);
-    WANT(envy_kept_file_shape("shaped", &found), ENVY_OTHER_JOURNAL);
+    WANT(envy_file_shape("shaped", &found), ENVY_OTHER_JOURNAL);
     WANT(pwrite(descriptor, "\2\0", 2, 8), 2);
-    WANT(envy_kept_file_shape("shaped", &found), ENVY_NO_JOURNAL);
+    WANT(envy_file_shape("shaped", &found), ENVY_NO_JOURNAL);
     WANT(ftruncate(descriptor, 32), 0);
-    WANT(envy_kept_file_shape("shaped", &found), ENVY_NO_JOURNAL);
+    WANT(envy_file_shape("shaped", &found), ENVY_NO_JOURNAL);
     WANT(close(descriptor), 0);
     make("shaped", "a text of another kind that is longer than a head", 0644);
-    WANT(envy_kept_file_shape("shaped", &found), ENVY_NO_JOURNAL);
+    WANT(envy_file_shape("shaped", &found), ENVY_NO_JOURNAL);
 }
 
 /* What isn't asked for needs no place. */
@@ -364,69 +370,69 @@ static void not_asked(void) {
         .segments = 8, .rows = 16, .pages = 40, .shadows = 32, .frames = 8, .entries = 4,
         .policy = ENVY_GREEDY, .part = 2, .limit = 100, .mark = 6,
     };
-    envy_kept_file f = ENVY_KEPT_FILE_INIT;
-    envy_kept *m = &f.memory;
+    envy f = ENVY_INIT;
+    envy *m = &f;
     uint64_t words[] = {1, 2, 3}, word;
     uint32_t slot, other;
-    WANT(envy_kept_open_file(&f, "unasked", &for_a_map), ENVY_DONE);
-    WANT(envy_kept_begin(m, &slot), ENVY_DONE);
-    WANT(envy_kept_begin(m, &other), ENVY_DONE);
-    WANT(envy_kept_put(m, slot, 5, 7, NULL), ENVY_DONE);
-    WANT(envy_kept_put(m, other, 6, 7, NULL), ENVY_HELD);
-    WANT(envy_kept_store(m, 6, 7, NULL), ENVY_HELD);
-    WANT(envy_kept_store(m, 40, 7, NULL), ENVY_DONE);
-    WANT(envy_kept_store_run(m, 62, words, 3, NULL, NULL), ENVY_DONE);
+    WANT(envy_open_file(&f, "unasked", &for_a_map, ENVY_CREATE), ENVY_DONE);
+    WANT(envy_begin(m, &slot), ENVY_DONE);
+    WANT(envy_begin(m, &other), ENVY_DONE);
+    WANT(envy_put(m, slot, 5, 7, NULL), ENVY_DONE);
+    WANT(envy_put(m, other, 6, 7, NULL), ENVY_HELD);
+    WANT(envy_store(m, 6, 7, NULL), ENVY_HELD);
+    WANT(envy_store(m, 40, 7, NULL), ENVY_DONE);
+    WANT(envy_store_run(m, 62, words, 3, NULL, NULL), ENVY_DONE);
     WANT(word_at(&f, 64), 3);
-    WANT(envy_kept_store_run(m, 6, words, 3, NULL, NULL), ENVY_HELD);
-    WANT(envy_kept_write(m, slot, 6, words, 3, NULL, NULL), ENVY_DONE);
-    WANT(envy_kept_write(m, other, 6, words, 3, NULL, NULL), ENVY_HELD);
+    WANT(envy_store_run(m, 6, words, 3, NULL, NULL), ENVY_HELD);
+    WANT(envy_write(m, slot, 6, words, 3, NULL, NULL), ENVY_DONE);
+    WANT(envy_write(m, other, 6, words, 3, NULL, NULL), ENVY_HELD);
     WANT(word_at(&f, 8), 3);
-    WANT(envy_kept_abort(m, slot), ENVY_DONE);
-    WANT(envy_kept_abort(m, other), ENVY_DONE);
-    WANT(envy_kept_index_create(m), ENVY_DONE);
-    WANT(envy_kept_index_insert(m, 9, 90, NULL), ENVY_DONE);
-    WANT(envy_kept_index_insert(m, 9, 91, NULL), ENVY_DONE);
-    WANT(envy_kept_index_get(m, 9, &word), ENVY_DONE);
+    WANT(envy_abort(m, slot), ENVY_DONE);
+    WANT(envy_abort(m, other), ENVY_DONE);
+    WANT(envy_index_create(m), ENVY_DONE);
+    WANT(envy_index_insert(m, 9, 90, NULL), ENVY_DONE);
+    WANT(envy_index_insert(m, 9, 91, NULL), ENVY_DONE);
+    WANT(envy_index_get(m, 9, &word), ENVY_DONE);
     WANT(word, 91);
-    WANT(envy_kept_close_file(&f), ENVY_DONE);
+    WANT(envy_close(&f), ENVY_DONE);
 }
 
 /* A new file has the access rights that the umask leaves, and keeps them as it is compacted. */
 static void rights(void) {
-    envy_kept_file f = ENVY_KEPT_FILE_INIT;
+    envy f = ENVY_INIT;
     struct stat found;
     mode_t before = umask(027);
-    WANT(envy_kept_open_file(&f, "rights", &setup), ENVY_DONE);
+    WANT(envy_open_file(&f, "rights", &setup, ENVY_CREATE), ENVY_DONE);
     store(&f, 5, 7);
     for (int i = 0; i < 2; i++) {
         WANT(stat("rights", &found), 0);
         WANT(found.st_mode & 07777, 0640);
-        WANT(envy_kept_compact(&f.memory), ENVY_DONE);
+        WANT(envy_compact(&f), ENVY_DONE);
     }
-    WANT(envy_kept_close_file(&f), ENVY_DONE);
+    WANT(envy_close(&f), ENVY_DONE);
     umask(before);
 }
 
 /* A file that may not grow so long fails with an error, and no signal ends the process. */
 static void limited(void) {
-    envy_kept_file f = ENVY_KEPT_FILE_INIT;
-    WANT(envy_kept_open_file(&f, "limited", &setup), ENVY_DONE);
+    envy f = ENVY_INIT;
+    WANT(envy_open_file(&f, "limited", &setup, ENVY_CREATE), ENVY_DONE);
     store(&f, 5, 7);
-    WANT(envy_kept_close_file(&f), ENVY_DONE);
+    WANT(envy_close(&f), ENVY_DONE);
     pid_t child = fork();
     if (!child) {
         const struct rlimit limit = {1 << 16, 1 << 16};
         WANT(setrlimit(RLIMIT_FSIZE, &limit), 0);
-        WANT(envy_kept_open_file(&f, "limited", &setup), ENVY_DONE);
+        WANT(envy_open_file(&f, "limited", &setup, ENVY_CREATE), ENVY_DONE);
         uint32_t code = ENVY_DONE;
         for (uint64_t n = 8; n < 100000 && code == ENVY_DONE; n++) {
             store(&f, 5, n);
-            code = envy_kept_sync(&f.memory);
+            code = envy_sync(&f);
         }
         WANT(code, ENVY_OFF);
         WANT(errno, EFBIG);
-        WANT(envy_kept_close_file(&f), ENVY_OFF);
-        WANT(envy_kept_file_error(&f), EFBIG);
+        WANT(envy_file_error(&f), EFBIG);
+        WANT(envy_close(&f), ENVY_OFF);
         _exit(0);
     }
     PASSED(child);

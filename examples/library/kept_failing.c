@@ -4,7 +4,7 @@
    isn't given; and a compaction, which leaves a shorter file that opens as the same words.
 
      kept_failing SEED */
-#include "../../c/envy_kept.h"
+#include "../../c/envy.h"
 #include "../../c/envy_text.h"
 #include <stdbool.h>
 #include <stdio.h>
@@ -139,14 +139,14 @@ static int do_replace(void *context) {
 
 static bool bytewise;
 static const envy_disk disk = {NULL, do_write, do_cut, do_sync, do_begin, do_append, do_replace};
-static envy_kept m = ENVY_KEPT_INIT;
+static envy m = ENVY_INIT;
 static int32_t port;
 
 /* Opens what the file holds, from a copy of it. */
 static uint32_t open_file(const envy_setup *s) {
     uint8_t *copy = malloc(first.n + 1);
     memcpy(copy, first.bytes, first.n);
-    uint32_t code = (bytewise ? envy_kept_open_bytewise : envy_kept_open)(&m, s, copy, first.n, port);
+    uint32_t code = envy_open_port(&m, s, copy, first.n, port, bytewise);
     free(copy);
     return code;
 }
@@ -154,7 +154,7 @@ static uint32_t open_file(const envy_setup *s) {
 static void holds(int line, const uint64_t *words) {
     uint64_t word;
     for (uint32_t a = 0; a < WORDS; a++) {
-        want(line, envy_kept_look(&m, a, &word), ENVY_DONE);
+        want(line, envy_look(&m, a, &word), ENVY_DONE);
         want(line, word, words[a]);
     }
 }
@@ -162,7 +162,7 @@ static void holds(int line, const uint64_t *words) {
 static bool is(const uint64_t *words) {
     uint64_t word;
     for (uint32_t a = 0; a < WORDS; a++)
-        if (envy_kept_look(&m, a, &word) != ENVY_DONE || word != words[a]) return false;
+        if (envy_look(&m, a, &word) != ENVY_DONE || word != words[a]) return false;
     return true;
 }
 
@@ -177,7 +177,7 @@ typedef struct session {
 /* If the second file fails, a compaction is done as a sync. */
 static uint32_t compacted_or_synced(void) {
     second_failed = false;
-    uint32_t code = envy_kept_compact(&m);
+    uint32_t code = envy_compact(&m);
     if (code != ENVY_APPENDED) return code;
     WANT(second_failed, true);
     return ENVY_DONE;
@@ -194,20 +194,20 @@ static void piece(session *s, uint64_t *state, int n) {
     uint32_t slot = 0, number;
     uint64_t to[WORDS];
     memcpy(to, s->now, sizeof to);
-    bool on = goes_on(s, envy_kept_begin(&m, &slot));
+    bool on = goes_on(s, envy_begin(&m, &slot));
     for (int i = 0; i < 6; i++) {
         uint32_t a = (uint32_t)(draw(state) % WORDS);
         uint64_t word = draw(state);
-        uint32_t code = envy_kept_put(&m, slot, a, word, &number);
+        uint32_t code = envy_put(&m, slot, a, word, &number);
         if (code == ENVY_FULL) continue;
         on = goes_on(s, code);
         to[a] = word;
     }
-    on = goes_on(s, envy_kept_commit(&m, slot));
+    on = goes_on(s, envy_commit(&m, slot));
     if (on) memcpy(s->now, to, sizeof to);
-    goes_on(s, envy_kept_tick(&m, &number));
+    goes_on(s, envy_tick(&m, &number));
     if (n % 3) return;
-    uint32_t code = n % 12 ? envy_kept_sync(&m) : compacted_or_synced();
+    uint32_t code = n % 12 ? envy_sync(&m) : compacted_or_synced();
     if (!s->ended) s->in_sync = true;
     if (goes_on(s, code)) {
         memcpy(s->synced, s->now, sizeof to);
@@ -228,19 +228,19 @@ static void session_with(int fails_at, uint64_t seed) {
     uint64_t state = seed;
     uint32_t code = open_file(&setup);
     if (code == ENVY_DONE) {
-        WANT(envy_kept_powered(&m), ENVY_DONE);
+        WANT(envy_powered(&m), ENVY_DONE);
         for (int n = 1; n <= PIECES; n++) piece(&s, &state, n);
-        WANT(envy_kept_powered(&m), s.ended ? ENVY_OFF : ENVY_DONE);
+        WANT(envy_powered(&m), s.ended ? ENVY_OFF : ENVY_DONE);
         uint64_t word = 77;
-        WANT(envy_kept_load(&m, 0, &word), s.ended ? ENVY_OFF : ENVY_DONE);
+        WANT(envy_load(&m, 0, &word), s.ended ? ENVY_OFF : ENVY_DONE);
         if (s.ended) {
             uint32_t number;
             WANT(word, 77);
-            WANT(envy_kept_store(&m, 0, 1, &number), ENVY_OFF);
-            WANT(envy_kept_sync(&m), ENVY_OFF);
-            WANT(envy_kept_compact(&m), ENVY_OFF);
+            WANT(envy_store(&m, 0, 1, &number), ENVY_OFF);
+            WANT(envy_sync(&m), ENVY_OFF);
+            WANT(envy_compact(&m), ENVY_OFF);
         }
-        envy_kept_close(&m);
+        envy_close(&m);
     } else {
         WANT(code, ENVY_OFF);
     }
@@ -254,7 +254,7 @@ static void session_with(int fails_at, uint64_t seed) {
         WANT(s.in_sync, true);
         holds(__LINE__, s.now);
     }
-    envy_kept_close(&m);
+    envy_close(&m);
 }
 
 /* ---- the answers of opening */
@@ -268,7 +268,7 @@ static void refuses(int line, const envy_setup *s, uint32_t code, bool is_asked)
     want(line, open_file(s), code);
     want(line, is_asked || calls == asked, true);
     want(line, is_asked || (first.n == n && !memcmp(first.bytes, before, n)), true);
-    want(line, envy_kept_load(&m, 0, &word), ENVY_EMPTY);
+    want(line, envy_load(&m, 0, &word), ENVY_EMPTY);
     want(line, word, 77);
     free(before);
 }
@@ -298,7 +298,7 @@ static void setups(void) {
     for (size_t i = 0; i < sizeof bad / sizeof *bad; i++) {
         uint64_t bytes = 77;
         refuses(__LINE__, &bad[i].s, bad[i].code, false);
-        WANT(envy_kept_size(&bad[i].s, &bytes), bad[i].code);
+        WANT(envy_board_size(&bad[i].s, &bytes), bad[i].code);
         WANT(bytes, 77);
     }
 }
@@ -308,23 +308,23 @@ static void answers(void) {
     uint64_t word, bytes;
     size_t done;
     envy_counts counts;
-    WANT(envy_kept_load(&m, 0, &word), ENVY_EMPTY);
-    WANT(envy_kept_look(&m, 0, &word), ENVY_EMPTY);
-    WANT(envy_kept_view(&m, 0, 0, &word), ENVY_EMPTY);
-    WANT(envy_kept_read(&m, 0, &word, 1), ENVY_EMPTY);
-    WANT(envy_kept_store(&m, 0, 1, &number), ENVY_EMPTY);
-    WANT(envy_kept_begin(&m, &number), ENVY_EMPTY);
-    WANT(envy_kept_put(&m, 0, 0, 1, &number), ENVY_EMPTY);
-    WANT(envy_kept_write(&m, 0, 0, &word, 1, &done, &number), ENVY_EMPTY);
-    WANT(envy_kept_commit(&m, 0), ENVY_EMPTY);
-    WANT(envy_kept_abort(&m, 0), ENVY_EMPTY);
-    WANT(envy_kept_tick(&m, &number), ENVY_EMPTY);
-    WANT(envy_kept_counts(&m, &counts), ENVY_EMPTY);
-    WANT(envy_kept_sync(&m), ENVY_EMPTY);
-    WANT(envy_kept_compact(&m), ENVY_EMPTY);
-    WANT(envy_kept_powered(&m), ENVY_EMPTY);
-    envy_kept_close(&m);
-    WANT(envy_kept_size(&setup, &bytes), ENVY_DONE);
+    WANT(envy_load(&m, 0, &word), ENVY_EMPTY);
+    WANT(envy_look(&m, 0, &word), ENVY_EMPTY);
+    WANT(envy_view(&m, 0, 0, &word), ENVY_EMPTY);
+    WANT(envy_read(&m, 0, &word, 1), ENVY_EMPTY);
+    WANT(envy_store(&m, 0, 1, &number), ENVY_EMPTY);
+    WANT(envy_begin(&m, &number), ENVY_EMPTY);
+    WANT(envy_put(&m, 0, 0, 1, &number), ENVY_EMPTY);
+    WANT(envy_write(&m, 0, 0, &word, 1, &done, &number), ENVY_EMPTY);
+    WANT(envy_commit(&m, 0), ENVY_EMPTY);
+    WANT(envy_abort(&m, 0), ENVY_EMPTY);
+    WANT(envy_tick(&m, &number), ENVY_EMPTY);
+    WANT(envy_counters(&m, &counts), ENVY_EMPTY);
+    WANT(envy_sync(&m), ENVY_EMPTY);
+    WANT(envy_compact(&m), ENVY_EMPTY);
+    WANT(envy_powered(&m), ENVY_EMPTY);
+    envy_close(&m);
+    WANT(envy_board_size(&setup, &bytes), ENVY_DONE);
     /* 32 rows of 256 bytes; 71 + 3*4 + 2*6 + 32 + 8 + 32*3 words of SRAM; 4 counts */
     WANT(bytes, 32 * 256 + 8 * (71 + 12 + 12 + 32 + 8 + 96) + 8 * 4);
 
@@ -332,20 +332,20 @@ static void answers(void) {
     setups();
     WANT(open_file(&setup), ENVY_DONE);
     WANT(open_file(&setup), ENVY_OPEN);
-    WANT(envy_kept_store(&m, 5, 7, &number), ENVY_DONE);
-    WANT(envy_kept_begin(&m, &number), ENVY_DONE);
-    WANT(envy_kept_put(&m, number, 5, 8, &number), ENVY_DONE);
-    WANT(envy_kept_sync(&m), ENVY_DONE);
-    WANT(envy_kept_store(&m, 40, 9, &number), ENVY_DONE);
-    envy_kept_close(&m);
+    WANT(envy_store(&m, 5, 7, &number), ENVY_DONE);
+    WANT(envy_begin(&m, &number), ENVY_DONE);
+    WANT(envy_put(&m, number, 5, 8, &number), ENVY_DONE);
+    WANT(envy_sync(&m), ENVY_DONE);
+    WANT(envy_store(&m, 40, 9, &number), ENVY_DONE);
+    envy_close(&m);
     setups();
     /* what wasn't synced is lost, and what was open is undone */
     WANT(open_file(&setup), ENVY_DONE);
-    WANT(envy_kept_load(&m, 5, &word), ENVY_DONE);
+    WANT(envy_load(&m, 5, &word), ENVY_DONE);
     WANT(word, 7);
-    WANT(envy_kept_load(&m, 40, &word), ENVY_DONE);
+    WANT(envy_load(&m, 40, &word), ENVY_DONE);
     WANT(word, 0);
-    envy_kept_close(&m);
+    envy_close(&m);
 
     envy_setup other = setup;
     other.entries = 3;
@@ -354,7 +354,7 @@ static void answers(void) {
     other.policy = ENVY_FIFO;
     other.mark = 3;
     WANT(open_file(&other), ENVY_DONE);
-    envy_kept_close(&m);
+    envy_close(&m);
     /* the versions before and behind this one */
     first.bytes[8] = 1;
     REFUSES(ENVY_OTHER_JOURNAL);
@@ -370,7 +370,7 @@ static void answers(void) {
     REFUSES(ENVY_NO_JOURNAL);
     first.bytes[37] = was;
     WANT(open_file(&setup), ENVY_DONE);
-    envy_kept_close(&m);
+    envy_close(&m);
     /* a journal of no memory: its one operation, a word of SRAM, makes no board */
     static const uint8_t batch[] = {4, 1, 0, 0, 0, 0, 9, 0, 0, 0, 0, 0, 0, 0, 5, 0};
     first.n = 33 + sizeof batch;
@@ -380,9 +380,9 @@ static void answers(void) {
     first.n = 36;
     memcpy(first.bytes + 33, "\4\5", 3);
     WANT(open_file(&setup), ENVY_DONE);
-    WANT(envy_kept_load(&m, 5, &word), ENVY_DONE);
+    WANT(envy_load(&m, 5, &word), ENVY_DONE);
     WANT(word, 0);
-    envy_kept_close(&m);
+    envy_close(&m);
     set("a text of another kind, which is long enough to be one");
     REFUSES(ENVY_NO_JOURNAL);
 }
@@ -393,9 +393,9 @@ static void without_blocks(void) {
     uint32_t number;
     first.n = 0;
     WANT(open_file(&setup), ENVY_DONE);
-    WANT(envy_kept_store(&m, 5, 7, &number), ENVY_DONE);
-    WANT(envy_kept_sync(&m), ENVY_DONE);
-    envy_kept_close(&m);
+    WANT(envy_store(&m, 5, 7, &number), ENVY_DONE);
+    WANT(envy_sync(&m), ENVY_DONE);
+    envy_close(&m);
     for (int block = 0;; block++) {
         blocks = 0;
         block_fails = block;
@@ -404,11 +404,11 @@ static void without_blocks(void) {
         if (code == ENVY_DONE) break;
         WANT(code, ENVY_NO_MEMORY);
         WANT(open_file(&setup), ENVY_DONE);
-        WANT(envy_kept_load(&m, 5, &word), ENVY_DONE);
+        WANT(envy_load(&m, 5, &word), ENVY_DONE);
         WANT(word, 7);
-        envy_kept_close(&m);
+        envy_close(&m);
     }
-    envy_kept_close(&m);
+    envy_close(&m);
 }
 
 /* A word that is stored again and again makes the file long; a compaction makes it short again. */
@@ -418,34 +418,34 @@ static void compacted(void) {
     first.n = 0;
     WANT(open_file(&setup), ENVY_DONE);
     for (uint64_t n = 1; n <= 5000; n++) {
-        WANT(envy_kept_store(&m, 5, n, &number), ENVY_DONE);
-        if (n % 100 == 0) WANT(envy_kept_sync(&m), ENVY_DONE);
+        WANT(envy_store(&m, 5, n, &number), ENVY_DONE);
+        if (n % 100 == 0) WANT(envy_sync(&m), ENVY_DONE);
     }
     size_t was = first.n;
-    WANT(envy_kept_compact(&m), ENVY_DONE);
+    WANT(envy_compact(&m), ENVY_DONE);
     WANT(first.n < was / 2, true);
     /* at most each row and each word of SRAM, and what stands around them */
     WANT(first.n <= 34 + 32 * 261 + 231 * 13 + 2, true);
-    envy_kept_close(&m);
+    envy_close(&m);
     WANT(open_file(&setup), ENVY_DONE);
-    WANT(envy_kept_load(&m, 5, &word), ENVY_DONE);
+    WANT(envy_load(&m, 5, &word), ENVY_DONE);
     WANT(word, 5000);
     /* and a sync does it by itself, so that a file never grows far above 1 MiB and twice what the board holds */
     for (uint64_t n = 1; n <= 150000; n++) {
-        WANT(envy_kept_store(&m, 5, n, &number), ENVY_DONE);
-        if (n % 1000 == 0) WANT(envy_kept_sync(&m), ENVY_DONE);
+        WANT(envy_store(&m, 5, n, &number), ENVY_DONE);
+        if (n % 1000 == 0) WANT(envy_sync(&m), ENVY_DONE);
         WANT(first.n < (1 << 20) + 2 * (32 * 261 + 231 * 13) + (1 << 17), true);
     }
-    WANT(envy_kept_load(&m, 5, &word), ENVY_DONE);
+    WANT(envy_load(&m, 5, &word), ENVY_DONE);
     WANT(word, 150000);
-    envy_kept_close(&m);
+    envy_close(&m);
 }
 
 int main(int words, char **word) {
     uint64_t seed = words > 1 ? strtoull(word[1], NULL, 10) : 1;
     first.bytes = malloc(ROOM);
     second.bytes = malloc(ROOM);
-    WANT(envy_kept_new(&m), ENVY_DONE);
+    WANT(envy_new(&m), ENVY_DONE);
     port = envy_disk_open(&disk);
     answers();
     without_blocks();

@@ -4,7 +4,7 @@
    one that is written byte by byte.
 
      kept_killed FILE ROUNDS SEED */
-#include "../../c/envy_kept_file.h"
+#include "../../c/envy.h"
 #include "../../c/envy_text.h"
 #include <signal.h>
 #include <stdio.h>
@@ -20,7 +20,7 @@ static envy_setup setup = {
     .policy = ENVY_GREEDY, .part = 2, .limit = 3, .mark = 6,
 };
 
-static envy_kept_file kept = ENVY_KEPT_FILE_INIT;
+static envy kept = ENVY_INIT;
 
 static uint64_t draw(uint64_t *state) {
     *state += 0x9E3779B97F4A7C15;
@@ -67,12 +67,12 @@ static void must(uint32_t code, const char *what) {
 
 static void do_piece(const piece *p, uint64_t *state) {
     uint32_t slot, number;
-    must(envy_kept_begin(&kept.memory, &slot), "begin");
+    must(envy_begin(&kept, &slot), "begin");
     for (int i = 0; i < p->count; i++) {
-        must(envy_kept_put(&kept.memory, slot, p->address[i], p->word[i], &number), "put");
-        if (draw(state) % 4 == 0) must(envy_kept_tick(&kept.memory, &number), "tick");
+        must(envy_put(&kept, slot, p->address[i], p->word[i], &number), "put");
+        if (draw(state) % 4 == 0) must(envy_tick(&kept, &number), "tick");
     }
-    must(p->is_aborted ? envy_kept_abort(&kept.memory, slot) : envy_kept_commit(&kept.memory, slot), "end");
+    must(p->is_aborted ? envy_abort(&kept, slot) : envy_commit(&kept, slot), "end");
 }
 
 /* What the worker tells: it begins the sync behind piece n, or that is done. */
@@ -89,13 +89,13 @@ static void tell(int pipe, uint64_t n, uint64_t is_done) {
 /* Works from piece n on until it is killed. */
 static void work(const char *path, uint64_t seed, uint64_t n, int pipe, int is_bytewise) {
     uint64_t state = seed + n;
-    must((is_bytewise ? envy_kept_open_file_bytewise : envy_kept_open_file)(&kept, path, &setup), "open");
+    must(envy_open_file(&kept, path, &setup, ENVY_CREATE | (is_bytewise ? ENVY_BYTEWISE : 0)), "open");
     for (;; n++) {
         piece p = piece_of(seed, n);
         do_piece(&p, &state);
         if (!p.is_synced) continue;
         tell(pipe, n, 0);
-        must(p.is_compacted ? envy_kept_compact(&kept.memory) : envy_kept_sync(&kept.memory), "sync");
+        must(p.is_compacted ? envy_compact(&kept) : envy_sync(&kept), "sync");
         tell(pipe, n, 1);
     }
 }
@@ -138,8 +138,8 @@ static void killed_after(const char *path, uint64_t seed, useconds_t moment, int
 static int holds(const uint64_t *words) {
     uint64_t loaded, looked;
     for (uint32_t a = 0; a < WORDS; a++) {
-        must(envy_kept_load(&kept.memory, a, &loaded), "load");
-        must(envy_kept_look(&kept.memory, a, &looked), "look");
+        must(envy_load(&kept, a, &loaded), "load");
+        must(envy_look(&kept, a, &looked), "look");
         if (loaded != words[a] || looked != words[a]) return 0;
     }
     return 1;
@@ -150,8 +150,8 @@ int main(int words, char **word) {
     if (words != 4) return 2;
     int rounds = atoi(word[2]), in_flight = 0;
     uint64_t seed = strtoull(word[3], NULL, 10), state = seed, last = 0, syncs = 0;
-    must(envy_kept_open_file(&kept, word[1], &setup), "make");
-    must(envy_kept_close_file(&kept), "close");
+    must(envy_open_file(&kept, word[1], &setup, ENVY_CREATE), "make");
+    must(envy_close(&kept), "close");
     for (int round = 1; round <= rounds; round++) {
         setup.policy = draw(&state) % 5;
         uint64_t done = last, begun;
@@ -166,7 +166,7 @@ int main(int words, char **word) {
             piece p = piece_of(seed, n);
             apply(after, &p);
         }
-        must(envy_kept_open_file(&kept, word[1], &setup), "open after a kill");
+        must(envy_open_file(&kept, word[1], &setup, ENVY_CREATE), "open after a kill");
         if (!holds(before)) {
             if (!holds(after)) {
                 fprintf(stderr, "kept_killed: round %d: the words are neither those of the sync behind piece %llu nor of %llu\n",
@@ -177,7 +177,7 @@ int main(int words, char **word) {
             last = begun;
             in_flight++;
         }
-        must(envy_kept_close_file(&kept), "close");
+        must(envy_close(&kept), "close");
     }
     printf("kept files: %d kills, %llu pieces of work, %llu syncs, %d of them done but not yet told\n", rounds,
            (unsigned long long)last, (unsigned long long)syncs, in_flight);

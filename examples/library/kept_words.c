@@ -1,7 +1,7 @@
 /* Answers a trace on standard input in the replies of `envy keep`, by a memory over a kept file.
 
      kept_words FILE <TRACE */
-#include "../../c/envy_kept_file.h"
+#include "../../c/envy.h"
 #include "../../c/envy_text.h"
 #include <stdio.h>
 #include <stdlib.h>
@@ -13,7 +13,7 @@ static const envy_setup setup = {
     .policy = ENVY_GREEDY, .limit = 100, .mark = 8,
 };
 
-static envy_kept_file kept = ENVY_KEPT_FILE_INIT;
+static envy kept = ENVY_INIT;
 
 static void reply(uint32_t code, const char *done, uint32_t holder) {
     switch (code) {
@@ -29,31 +29,31 @@ static void reply(uint32_t code, const char *done, uint32_t holder) {
 }
 
 static void answer(const char *command, const unsigned long long *x) {
-    envy_kept *m = &kept.memory;
+    envy *m = &kept;
     uint64_t word = 0;
     uint32_t number = 0, code;
     if (!strcmp(command, "load") || !strcmp(command, "look")) {
-        code = command[2] == 'a' ? envy_kept_load(m, x[0], &word) : envy_kept_look(m, x[0], &word);
+        code = command[2] == 'a' ? envy_load(m, x[0], &word) : envy_look(m, x[0], &word);
         if (code == ENVY_DONE) printf("%llu\n", (unsigned long long)word);
         else reply(code, "", 0);
     } else if (!strcmp(command, "store")) {
-        code = envy_kept_store(m, x[0], x[1], &number);
+        code = envy_store(m, x[0], x[1], &number);
         reply(code, "ok", number);
     } else if (!strcmp(command, "begin")) {
-        code = envy_kept_begin(m, &number);
+        code = envy_begin(m, &number);
         if (code == ENVY_DONE) printf("tx %u\n", number);
         else reply(code, "", 0);
     } else if (!strcmp(command, "put")) {
-        code = envy_kept_put(m, x[0], x[1], x[2], &number);
+        code = envy_put(m, x[0], x[1], x[2], &number);
         reply(code, "ok", number);
     } else if (!strcmp(command, "commit")) {
-        reply(envy_kept_commit(m, x[0]), "ok", 0);
+        reply(envy_commit(m, x[0]), "ok", 0);
     } else if (!strcmp(command, "abort")) {
-        reply(envy_kept_abort(m, x[0]), "ok", 0);
+        reply(envy_abort(m, x[0]), "ok", 0);
     } else if (!strcmp(command, "tick")) {
-        reply(envy_kept_tick(m, &number), "ok", 0);
+        reply(envy_tick(m, &number), "ok", 0);
     } else if (!strcmp(command, "sync")) {
-        reply(envy_kept_sync(m), "synced", 0);
+        reply(envy_sync(m), "synced", 0);
     } else {
         exit(5);
     }
@@ -62,7 +62,7 @@ static void answer(const char *command, const unsigned long long *x) {
 int main(int words, char **word) {
     char line[128], command[16];
     if (words != 2) return 2;
-    uint32_t code = envy_kept_open_file(&kept, word[1], &setup);
+    uint32_t code = envy_open_file(&kept, word[1], &setup, ENVY_CREATE);
     if (code != ENVY_DONE) {
         puts(envy_error_text(code));
         return 1;
@@ -71,5 +71,5 @@ int main(int words, char **word) {
         unsigned long long x[3] = {0, 0, 0};
         if (sscanf(line, "%15s %llu %llu %llu", command, x, x + 1, x + 2) > 0) answer(command, x);
     }
-    return envy_kept_close_file(&kept) == ENVY_DONE ? 0 : 6;
+    return envy_close(&kept) == ENVY_DONE ? 0 : 6;
 }

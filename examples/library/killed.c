@@ -3,7 +3,7 @@
    was answered, or that and the one piece of work that was in flight.
 
      killed FILE ROUNDS SEED */
-#include "../../c/envy_file.h"
+#include "../../c/envy.h"
 #include "../../c/envy_text.h"
 #include <signal.h>
 #include <stdio.h>
@@ -19,7 +19,7 @@ static envy_setup setup = {
     .policy = ENVY_GREEDY, .part = 2, .limit = 3, .mark = 6,
 };
 
-static envy_file map = ENVY_FILE_INIT;
+static envy map = ENVY_INIT;
 
 static uint64_t draw(uint64_t *state) {
     *state += 0x9E3779B97F4A7C15;
@@ -68,21 +68,21 @@ static void must(uint32_t code, const char *what) {
 static void do_piece(const piece *p, uint64_t *state) {
     uint32_t slot, number;
     if (p->kind == STORE) {
-        must(envy_mapped_store(&map.memory, p->address[0], p->word[0], &number), "store");
+        must(envy_store(&map, p->address[0], p->word[0], &number), "store");
         return;
     }
-    must(envy_mapped_begin(&map.memory, &slot), "begin");
+    must(envy_begin(&map, &slot), "begin");
     for (int i = 0; i < p->count; i++) {
-        must(envy_mapped_put(&map.memory, slot, p->address[i], p->word[i], &number), "put");
-        if (draw(state) % 4 == 0) must(envy_mapped_tick(&map.memory, &number), "tick");
+        must(envy_put(&map, slot, p->address[i], p->word[i], &number), "put");
+        if (draw(state) % 4 == 0) must(envy_tick(&map, &number), "tick");
     }
-    must(p->kind == ABORT ? envy_mapped_abort(&map.memory, slot) : envy_mapped_commit(&map.memory, slot), "end");
+    must(p->kind == ABORT ? envy_abort(&map, slot) : envy_commit(&map, slot), "end");
 }
 
 /* Works from piece n on until it is killed, and writes the number of each piece once it was answered. */
 static void work(const char *path, uint64_t seed, uint64_t n, int pipe) {
     uint64_t state = seed + n;
-    must(envy_file_open(&map, path, &setup), "attach");
+    must(envy_open_mapped(&map, path, &setup, ENVY_CREATE), "attach");
     for (;; n++) {
         piece p = piece_of(seed, n);
         do_piece(&p, &state);
@@ -127,8 +127,8 @@ static uint64_t killed_after(const char *path, uint64_t seed, uint64_t last, use
 static int holds(const uint64_t *words) {
     uint64_t loaded, looked;
     for (uint32_t a = 0; a < WORDS; a++) {
-        must(envy_mapped_load(&map.memory, a, &loaded), "load");
-        must(envy_mapped_look(&map.memory, a, &looked), "look");
+        must(envy_load(&map, a, &loaded), "load");
+        must(envy_look(&map, a, &looked), "look");
         if (loaded != words[a] || looked != words[a]) return 0;
     }
     return 1;
@@ -139,8 +139,8 @@ int main(int words, char **word) {
     if (words != 4) return 2;
     int rounds = atoi(word[2]), in_flight = 0;
     uint64_t seed = strtoull(word[3], NULL, 10), state = seed, last = 0;
-    must(envy_file_open(&map, word[1], &setup), "format");
-    envy_file_close(&map);
+    must(envy_open_mapped(&map, word[1], &setup, ENVY_CREATE), "format");
+    envy_close(&map);
     for (int round = 1; round <= rounds; round++) {
         setup.policy = draw(&state) % 5;
         uint64_t answered = killed_after(word[1], seed, last, (useconds_t)(draw(&state) % 12000));
@@ -151,7 +151,7 @@ int main(int words, char **word) {
         piece next = piece_of(seed, last + 1);
         memcpy(after, before, sizeof after);
         apply(after, &next);
-        must(envy_file_open(&map, word[1], &setup), "attach after a kill");
+        must(envy_open_mapped(&map, word[1], &setup, ENVY_CREATE), "attach after a kill");
         if (!holds(before)) {
             if (!holds(after)) {
                 fprintf(stderr, "killed: round %d: the words are neither those of piece %llu nor of the next\n", round,
@@ -162,7 +162,7 @@ int main(int words, char **word) {
             last++;
             in_flight++;
         }
-        envy_file_close(&map);
+        envy_close(&map);
     }
     printf("%d kills, %llu pieces of work, %d of them done but not yet answered\n", rounds, (unsigned long long)last,
            in_flight);

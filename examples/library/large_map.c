@@ -3,8 +3,7 @@
    as much of the disk.
 
      large_map FILE PAIRS */
-#include "../../c/envy_kept_file.h"
-#include "../../c/envy_kept_map.h"
+#include "../../c/envy.h"
 #include "../../c/envy_setup.h"
 #include "../../c/envy_text.h"
 #include <stdio.h>
@@ -31,47 +30,47 @@ static uint64_t value_of(uint64_t key) { return key * 0x9E3779B97F4A7C15; }
 
 static int is_pair(const envy_pair *pair, uint64_t key) { return pair->key == key && pair->value == value_of(key); }
 
-static void fill(envy_kept *m, const envy_map *map, uint64_t pairs) {
+static void fill(envy *m, const envy_map *map, uint64_t pairs) {
     uint32_t slot = 0;
     envy_old before;
     for (uint64_t i = 0; i < pairs; i++) {
-        if (i % CHANGES == 0) must(envy_kept_map_begin(m, &slot), "begin");
+        if (i % CHANGES == 0) must(envy_map_begin(m, &slot), "begin");
         uint64_t key = key_of(i, pairs);
-        uint32_t code = envy_kept_map_insert(m, slot, map, key, value_of(key), &before);
+        uint32_t code = envy_map_insert(m, slot, map, key, value_of(key), &before);
         if (code == ENVY_FULL) {
-            must(envy_kept_map_commit(m, slot), "commit");
-            must(envy_kept_map_begin(m, &slot), "begin");
-            code = envy_kept_map_insert(m, slot, map, key, value_of(key), &before);
+            must(envy_map_commit(m, slot), "commit");
+            must(envy_map_begin(m, &slot), "begin");
+            code = envy_map_insert(m, slot, map, key, value_of(key), &before);
         }
         must(code, "insert");
         so(!before.had, "a key is there before it is set");
-        if (i % CHANGES == CHANGES - 1 || i == pairs - 1) must(envy_kept_map_commit(m, slot), "commit");
-        if (i % (CHANGES * 1000) == CHANGES * 1000 - 1) must(envy_kept_sync(m), "sync");
+        if (i % CHANGES == CHANGES - 1 || i == pairs - 1) must(envy_map_commit(m, slot), "commit");
+        if (i % (CHANGES * 1000) == CHANGES * 1000 - 1) must(envy_sync(m), "sync");
     }
 }
 
-static void read_all(envy_kept *m, const envy_map *map, uint64_t pairs) {
+static void read_all(envy *m, const envy_map *map, uint64_t pairs) {
     static envy_pair pair[PART];
     uint64_t count, next = 0;
     size_t n;
-    must(envy_kept_map_count(m, map, &count), "count");
+    must(envy_map_count(m, map, &count), "count");
     so(count == pairs, "another number of pairs");
     for (uint64_t key = 0; key < pairs; next += n, key = next) {
-        must(envy_kept_map_scan(m, map, 3 * key, pair, PART, &n), "scan");
+        must(envy_map_scan(m, map, 3 * key, pair, PART, &n), "scan");
         so(n > 0, "a scan ends early");
         for (size_t i = 0; i < n; i++) so(is_pair(&pair[i], 3 * (next + i)), "a pair of a scan");
     }
     so(next == pairs, "a scan has more pairs");
     for (uint64_t left = pairs; left; left -= n) {
-        must(envy_kept_map_scan_down(m, map, 3 * left - 1, pair, PART, &n), "scan down");
+        must(envy_map_scan_down(m, map, 3 * left - 1, pair, PART, &n), "scan down");
         so(n > 0 && n <= left, "a scan down ends early");
         for (size_t i = 0; i < n; i++) so(is_pair(&pair[i], 3 * (left - 1 - i)), "a pair of a scan down");
     }
     for (uint64_t i = 0; i < pairs; i += 97) {
         uint64_t value;
-        must(envy_kept_map_get(m, map, 3 * i, &value), "get");
+        must(envy_map_get(m, map, 3 * i, &value), "get");
         so(value == value_of(3 * i), "a value");
-        so(envy_kept_map_get(m, map, 3 * i + 1, &value) == ENVY_ABSENT, "a key that wasn't set");
+        so(envy_map_get(m, map, 3 * i + 1, &value) == ENVY_ABSENT, "a key that wasn't set");
     }
 }
 
@@ -81,18 +80,18 @@ int main(int words, char **word) {
     /* at worst 14 pairs to a piece of 64 words, and eight pieces more */
     uint64_t wanted = 64 + (pairs / 14 + 9) * 64;
     envy_setup setup;
-    envy_kept_file f = ENVY_KEPT_FILE_INIT;
+    envy f = ENVY_INIT;
     must(envy_setup_for(wanted, TOGETHER * 16, &setup), "a setup");
     envy_map map = {0, 32 * setup.pages};
-    must(envy_kept_open_file(&f, word[1], &setup), "open");
-    fill(&f.memory, &map, pairs);
-    must(envy_kept_close_file(&f), "close");
-    must(envy_kept_open_file(&f, word[1], &setup), "open again");
-    uint32_t rule = 0, code = envy_kept_map_check(&f.memory, &map, &rule);
+    must(envy_open_file(&f, word[1], &setup, ENVY_CREATE), "open");
+    fill(&f, &map, pairs);
+    must(envy_close(&f), "close");
+    must(envy_open_file(&f, word[1], &setup, ENVY_CREATE), "open again");
+    uint32_t rule = 0, code = envy_map_check(&f, &map, &rule);
     if (code == ENVY_BROKEN_MAP) fprintf(stderr, "large_map: %s\n", envy_map_rule_text(rule));
     must(code, "check");
-    read_all(&f.memory, &map, pairs);
-    must(envy_kept_leave_file(&f), "leave");
+    read_all(&f, &map, pairs);
+    must(envy_leave(&f), "leave");
     printf("%llu pairs in %u pages were set, found to be a map, and read\n", (unsigned long long)pairs, setup.pages);
     return 0;
 }

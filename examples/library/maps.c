@@ -3,8 +3,7 @@
    the maps and words are just those of the last transaction that was answered, or of the one that was in flight.
 
      maps FILE CHANGES SEED */
-#include "../../c/envy_file.h"
-#include "../../c/envy_map.h"
+#include "../../c/envy.h"
 #include "sorted.h"
 #include <signal.h>
 #include <stdio.h>
@@ -25,7 +24,7 @@ static envy_setup setup = {
     .policy = ENVY_GREEDY, .part = 2, .limit = 3, .mark = 64,
 };
 
-static envy_file file = ENVY_FILE_INIT;
+static envy file = ENVY_INIT;
 
 /* What the file holds. */
 typedef struct state {
@@ -88,7 +87,7 @@ static void apply(state *s, const change *c) {
 static int do_change(uint32_t slot, const state *s, const change *c) {
     uint32_t holder, code;
     if (c->map == MAPS) {
-        code = envy_mapped_put(&file.memory, slot, plain_at(c->key), c->value, &holder);
+        code = envy_put(&file, slot, plain_at(c->key), c->value, &holder);
         must(code == ENVY_DONE || code == ENVY_FULL, "a plain word is put");
         return code == ENVY_DONE;
     }
@@ -98,16 +97,16 @@ static int do_change(uint32_t slot, const state *s, const change *c) {
     uint64_t word = 77;
     envy_old before = {77, 78};
     if (c->takes_out) {
-        code = envy_map_remove(&file.memory, slot, map, c->key, &word);
+        code = envy_map_remove(&file, slot, map, c->key, &word);
         if (code != ENVY_FULL) must(code == (there ? ENVY_DONE : ENVY_ABSENT), "remove");
         must(word == (code == ENVY_DONE ? m->pair[place].value : 77), "the value of a removal");
     } else {
-        code = envy_map_insert(&file.memory, slot, map, c->key, c->value, &before);
+        code = envy_map_insert(&file, slot, map, c->key, c->value, &before);
         if (code != ENVY_FULL) must(code == (is_full(m, c->map, c->key) ? ENVY_MAP_FULL : ENVY_DONE), "insert");
         if (code != ENVY_DONE) must(before.value == 77 && before.had == 78, "a refused insert writes");
         else must(before.had == (uint32_t)there && before.value == (there ? m->pair[place].value : 0), "the value before");
     }
-    uint32_t found = envy_map_get(&file.memory, map, c->key, &word);
+    uint32_t found = envy_map_get(&file, map, c->key, &word);
     if (code == ENVY_DONE) must(found == (c->takes_out ? ENVY_ABSENT : ENVY_DONE), "a change is seen");
     else must(found == (there ? ENVY_DONE : ENVY_ABSENT), "a refused change is none");
     if (code == ENVY_DONE && !c->takes_out) must(word == c->value, "the value is seen");
@@ -121,18 +120,18 @@ static int holds(const state *s) {
         const model *m = &s->map[i];
         uint64_t number = 0;
         size_t count = 0;
-        must(envy_map_count(&file.memory, &maps[i], &number) == ENVY_DONE, "count");
-        must(envy_map_scan(&file.memory, &maps[i], 0, pair, SORTED + 1, &count) == ENVY_DONE, "scan");
+        must(envy_map_count(&file, &maps[i], &number) == ENVY_DONE, "count");
+        must(envy_map_scan(&file, &maps[i], 0, pair, SORTED + 1, &count) == ENVY_DONE, "scan");
         if (number != (uint64_t)m->count || count != (size_t)m->count) return 0;
         if (memcmp(pair, m->pair, count * sizeof *pair)) return 0;
-        must(envy_map_scan_down(&file.memory, &maps[i], UINT64_MAX, pair, SORTED + 1, &count) == ENVY_DONE, "scan_down");
+        must(envy_map_scan_down(&file, &maps[i], UINT64_MAX, pair, SORTED + 1, &count) == ENVY_DONE, "scan_down");
         if (count != (size_t)m->count) return 0;
         for (size_t j = 0; j < count; j++)
             if (memcmp(&pair[j], &m->pair[count - 1 - j], sizeof *pair)) return 0;
     }
     for (uint64_t i = 0; i < PLAIN; i++) {
         uint64_t word;
-        must(envy_mapped_load(&file.memory, plain_at(i), &word) == ENVY_DONE, "load");
+        must(envy_load(&file, plain_at(i), &word) == ENVY_DONE, "load");
         if (word != s->plain[i]) return 0;
     }
     return 1;
@@ -149,11 +148,11 @@ typedef struct note {
 static void work(const char *path, uint64_t seed, uint64_t n, state *s, int pipe) {
     static state saved;
     uint32_t slot, did;
-    must(envy_file_open(&file, path, &setup) == ENVY_DONE, "attach");
+    must(envy_open_mapped(&file, path, &setup, ENVY_CREATE) == ENVY_DONE, "attach");
     for (;; n++) {
         int kept, length = length_of(seed, n, &kept), i = 0;
         saved = *s;
-        must(envy_map_begin(&file.memory, &slot) == ENVY_DONE && slot == 0, "begin");
+        must(envy_map_begin(&file, &slot) == ENVY_DONE && slot == 0, "begin");
         for (; i < length; i++) {
             change c = change_of(seed, n, i);
             if (!do_change(slot, s, &c)) break;
@@ -161,12 +160,12 @@ static void work(const char *path, uint64_t seed, uint64_t n, state *s, int pipe
         }
         note told = {n, kept ? i : 0, 0};
         if (write(pipe, &told, sizeof told) != sizeof told) _exit(1);
-        must((kept ? envy_map_commit : envy_map_abort)(&file.memory, slot) == ENVY_DONE, "the end of a transaction");
+        must((kept ? envy_map_commit : envy_map_abort)(&file, slot) == ENVY_DONE, "the end of a transaction");
         if (!kept) *s = saved;
         told.ended = 1;
         if (write(pipe, &told, sizeof told) != sizeof told) _exit(1);
         if (n % 64 == 0) must(holds(s), "what the worker sees");
-        if (n % 4 == 0) must(envy_mapped_tick(&file.memory, &did) == ENVY_DONE, "tick");
+        if (n % 4 == 0) must(envy_tick(&file, &did) == ENVY_DONE, "tick");
     }
 }
 
@@ -218,14 +217,14 @@ static void all_answer(uint32_t code, const envy_map *map) {
     envy_old before = {77, 78};
     envy_pair pair = {77, 78};
     size_t count = 77;
-    must(envy_map_create(&file.memory, 0, map) == code, "create is refused");
-    must(envy_map_insert(&file.memory, 0, map, 5, 50, &before) == code, "insert is refused");
-    must(envy_map_remove(&file.memory, 0, map, 5, &word) == code, "remove is refused");
+    must(envy_map_create(&file, 0, map) == code, "create is refused");
+    must(envy_map_insert(&file, 0, map, 5, 50, &before) == code, "insert is refused");
+    must(envy_map_remove(&file, 0, map, 5, &word) == code, "remove is refused");
     if (code == ENVY_CLOSED) return;
-    must(envy_map_get(&file.memory, map, 5, &word) == code, "get is refused");
-    must(envy_map_count(&file.memory, map, &word) == code, "count is refused");
-    must(envy_map_scan(&file.memory, map, 5, &pair, 1, &count) == code, "scan is refused");
-    must(envy_map_scan_down(&file.memory, map, 5, &pair, 1, &count) == code, "scan_down is refused");
+    must(envy_map_get(&file, map, 5, &word) == code, "get is refused");
+    must(envy_map_count(&file, map, &word) == code, "count is refused");
+    must(envy_map_scan(&file, map, 5, &pair, 1, &count) == code, "scan is refused");
+    must(envy_map_scan_down(&file, map, 5, &pair, 1, &count) == code, "scan_down is refused");
     must(word == 77 && before.value == 77 && before.had == 78 && pair.key == 77 && count == 77, "a refusal writes");
 }
 
@@ -234,29 +233,29 @@ static void refusals(const char *path) {
     uint32_t slot, other;
     uint64_t word;
     envy_old before;
-    must(envy_mapped_new(&file.memory) == ENVY_DONE, "a place is made");
+    must(envy_new(&file) == ENVY_DONE, "a place is made");
     all_answer(ENVY_EMPTY, &maps[0]);
-    must(envy_map_begin(&file.memory, &slot) == ENVY_EMPTY && envy_map_commit(&file.memory, 0) == ENVY_EMPTY, "no memory");
-    must(envy_file_open(&file, path, &setup) == ENVY_DONE, "format");
+    must(envy_map_begin(&file, &slot) == ENVY_EMPTY && envy_map_commit(&file, 0) == ENVY_EMPTY, "no memory");
+    must(envy_open_mapped(&file, path, &setup, ENVY_CREATE) == ENVY_DONE, "format");
     all_answer(ENVY_CLOSED, &maps[0]);
-    must(envy_map_commit(&file.memory, 0) == ENVY_CLOSED && envy_map_abort(&file.memory, 0) == ENVY_CLOSED, "no transaction");
+    must(envy_map_commit(&file, 0) == ENVY_CLOSED && envy_map_abort(&file, 0) == ENVY_CLOSED, "no transaction");
     /* beside another transaction there is none of maps */
-    must(envy_mapped_begin(&file.memory, &slot) == ENVY_DONE && slot == 0, "begin");
-    must(envy_map_begin(&file.memory, &other) == ENVY_SLOT_OPEN, "a slot is open");
-    must(envy_mapped_begin(&file.memory, &other) == ENVY_DONE && other == 1, "begin");
+    must(envy_begin(&file, &slot) == ENVY_DONE && slot == 0, "begin");
+    must(envy_map_begin(&file, &other) == ENVY_SLOT_OPEN, "a slot is open");
+    must(envy_begin(&file, &other) == ENVY_DONE && other == 1, "begin");
     all_answer(ENVY_SLOT_OPEN, &maps[0]);
-    must(envy_mapped_abort(&file.memory, 0) == ENVY_DONE && envy_mapped_abort(&file.memory, 1) == ENVY_DONE, "abort");
-    must(envy_map_begin(&file.memory, &slot) == ENVY_DONE, "begin");
+    must(envy_abort(&file, 0) == ENVY_DONE && envy_abort(&file, 1) == ENVY_DONE, "abort");
+    must(envy_map_begin(&file, &slot) == ENVY_DONE, "begin");
     for (size_t i = 0; i < sizeof past / sizeof *past; i++) all_answer(ENVY_RANGE, &past[i]);
-    must(envy_map_commit(&file.memory, 1) == ENVY_CLOSED, "another slot");
-    must(envy_map_insert(&file.memory, 1, &maps[0], 5, 50, &before) == ENVY_CLOSED, "a change in another slot");
+    must(envy_map_commit(&file, 1) == ENVY_CLOSED, "another slot");
+    must(envy_map_insert(&file, 1, &maps[0], 5, 50, &before) == ENVY_CLOSED, "a change in another slot");
     /* a map is made of any words, and an aborted one is none */
-    must(envy_map_create(&file.memory, slot, &maps[1]) == ENVY_DONE, "create");
-    must(envy_mapped_load(&file.memory, maps[1].first + 4, &word) == ENVY_DONE && word, "a map is marked");
-    must(envy_map_insert(&file.memory, slot, &maps[1], 5, 50, &before) == ENVY_DONE, "insert");
-    must(envy_map_abort(&file.memory, slot) == ENVY_DONE, "abort");
-    must(envy_mapped_load(&file.memory, maps[1].first + 4, &word) == ENVY_DONE && !word, "an aborted map");
-    must(envy_map_get(&file.memory, &maps[1], 5, &word) == ENVY_ABSENT, "an aborted pair");
+    must(envy_map_create(&file, slot, &maps[1]) == ENVY_DONE, "create");
+    must(envy_load(&file, maps[1].first + 4, &word) == ENVY_DONE && word, "a map is marked");
+    must(envy_map_insert(&file, slot, &maps[1], 5, 50, &before) == ENVY_DONE, "insert");
+    must(envy_map_abort(&file, slot) == ENVY_DONE, "abort");
+    must(envy_load(&file, maps[1].first + 4, &word) == ENVY_DONE && !word, "an aborted map");
+    must(envy_map_get(&file, &maps[1], 5, &word) == ENVY_ABSENT, "an aborted pair");
 }
 
 int main(int words, char **word) {
@@ -266,11 +265,11 @@ int main(int words, char **word) {
     int kills = 0, in_flight = 0;
     note flying;
     refusals(word[1]);
-    must(envy_file_close(&file) == ENVY_DONE, "close");
+    must(envy_close(&file) == ENVY_DONE, "close");
     while (changes < end) {
         next = killed_after(word[1], seed, next, &before, &flying, &changes, (useconds_t)(draw(&drawn) % 200000));
         kills++;
-        must(envy_file_open(&file, word[1], &setup) == ENVY_DONE, "attach after a kill");
+        must(envy_open_mapped(&file, word[1], &setup, ENVY_CREATE) == ENVY_DONE, "attach after a kill");
         if (!holds(&before)) {
             after = before;
             play(&after, seed, &flying);
@@ -280,7 +279,7 @@ int main(int words, char **word) {
         }
         /* (a transaction that was in flight isn't begun again) */
         next++;
-        envy_file_close(&file);
+        envy_close(&file);
     }
     printf("%llu changes of three maps and %d words in %llu transactions, %d kills, %d transactions done but not yet answered\n",
            (unsigned long long)changes, PLAIN, (unsigned long long)next - 1, kills, in_flight);

@@ -1,6 +1,6 @@
-/* One library over each kind of board: the same work and the same answers over a file, over a mapped file, over regions and
-   over a board that can be made to fail; what lasts of each; what the others answer of a call that is for one alone; a place
-   that serves for one after another; and a handle that has no place.
+/* One library over each kind of board: the same work and the same answers over a file, over a mapped file, over a disk of the
+   program's, over regions and over a board that can be made to fail; what lasts of each; what the others answer of a call that
+   is for one alone; how a file is opened; a place that serves for one after another; and a handle that has no place.
 
      one FOLDER */
 #include "../../c/envy.h"
@@ -88,6 +88,11 @@ static void shows(const char *over, envy *m) {
     is(over, envy_counters(m, &counts), ENVY_DONE);
     is(over, envy_worn(m, &retired, &left), ENVY_DONE);
     if (!page.place || job.kind > 3 || !counts.hits || left) is(over, 1, 0);
+    envy_stats stats = {.segments = 99};
+    is(over, envy_stat(m, &stats), ENVY_DONE);
+    if (stats.segments != setup.segments || stats.counts.hits != counts.hits) is(over, 1, 0);
+    if (stats.rows[0] + stats.rows[1] + stats.rows[2] + stats.rows[3] != 8 * 32) is(over, 1, 0);
+    if (stats.least_wear > stats.most_wear || stats.file_bytes != envy_file_bytes(m)) is(over, 1, 0);
 }
 
 /* A call that is for a board that can be made to fail alone. */
@@ -121,6 +126,97 @@ static void over_a_file(envy *m, const char *path) {
     is("its end", envy_close(m), ENVY_DONE);
 }
 
+/* Sizes from the file, or from the setup; an end without a sync; and a file that is compacted when it is opened. */
+static void opened_in_each_way(envy *m, const char *path) {
+    static const envy_setup none = {.limit = 0};
+    envy_setup other = setup;
+    other.pages = 32;
+    other.policy = ENVY_FIFO;
+    is("a setup of zeros", envy_open_file(m, path, &none, ENVY_CREATE), ENVY_DONE);
+    is("a store", envy_store(m, 5, 99, NULL), ENVY_DONE);
+    is("an end without a sync", envy_leave(m), ENVY_DONE);
+    is("a file of another shape", envy_open_file(m, path, &other, 0), ENVY_OTHER_SHAPE);
+    is("sizes of the file", envy_open_file(m, path, &other, ENVY_READ_SIZES | ENVY_COMPACT), ENVY_DONE);
+    holds("what was synced", m, 5, 8);
+    holds("the last page", m, 32 * 64 - 1, 0);
+    is("its end", envy_close(m), ENVY_DONE);
+    other.mark = 0;
+    is("a rule that the setup breaks", envy_open_file(m, path, &other, ENVY_READ_SIZES), ENVY_SETUP_MARK);
+    is("no file to have sizes of", envy_open_file(m, "/nowhere/at/all", NULL, ENVY_CREATE), ENVY_SYSTEM);
+    is("a refused place", envy_load(m, 5, &(uint64_t){0}), ENVY_EMPTY);
+}
+
+/* A file in memory, which the program serves. */
+static struct {
+    uint8_t bytes[1 << 20];
+    uint8_t second[1 << 20];
+    size_t n;
+    size_t second_n;
+} served;
+
+static int write_served(void *context, uint64_t at, const void *bytes, size_t n) {
+    (void)context;
+    if (at > served.n || at + n > sizeof served.bytes) return 1;
+    memcpy(served.bytes + at, bytes, n);
+    if (at + n > served.n) served.n = at + n;
+    return 0;
+}
+
+static int cut_served(void *context, uint64_t size) {
+    (void)context;
+    served.n = size;
+    return 0;
+}
+
+static int sync_served(void *context) {
+    (void)context;
+    return 0;
+}
+
+static int begin_second(void *context) {
+    (void)context;
+    served.second_n = 0;
+    return 0;
+}
+
+static int append_second(void *context, const void *bytes, size_t n) {
+    (void)context;
+    if (served.second_n + n > sizeof served.second) return 1;
+    memcpy(served.second + served.second_n, bytes, n);
+    served.second_n += n;
+    return 0;
+}
+
+static int replace_served(void *context) {
+    (void)context;
+    memcpy(served.bytes, served.second, served.second_n);
+    served.n = served.second_n;
+    return 0;
+}
+
+static void over_a_disk(envy *m) {
+    static const envy_disk disk = {0, write_served, cut_served, sync_served, begin_second, append_second, replace_served};
+    static uint8_t found[1 << 20];
+    is("a disk", envy_open_disk(m, &setup, found, 0, &disk, 0), ENVY_DONE);
+    work("a disk", m);
+    shows("a disk", m);
+    keep_pairs("a disk's map", m);
+    refuses_failures("a disk", m);
+    is("a disk that is open", envy_open_disk(m, &setup, found, 0, &disk, 0), ENVY_OPEN);
+    is("its compaction", envy_compact(m), ENVY_DONE);
+    is("its end", envy_close(m), ENVY_DONE);
+    /* (each port is given up: more openings than there are ports) */
+    for (int n = 0; n <= ENVY_DISKS; n++) {
+        size_t bytes = served.n;
+        memcpy(found, served.bytes, bytes);
+        is("the disk again", envy_open_disk(m, &setup, found, bytes, &disk, n % 2 ? ENVY_BYTEWISE : 0), ENVY_DONE);
+        if (n == 0) holds("the disk again", m, 5, 8);
+        is("its end", envy_close(m), ENVY_DONE);
+        found[0] = 'x';
+        is("bytes of another kind", envy_open_disk(m, &setup, found, bytes, &disk, 0), ENVY_NO_JOURNAL);
+    }
+}
+
 static void over_a_mapped_file(envy *m, const char *path) {
     envy_setup shape;
     is("no mapped file", envy_open_mapped(m, path, &setup, 0), ENVY_SYSTEM);
@@ -133,7 +229,7 @@ static void over_a_mapped_file(envy *m, const char *path) {
     is("a mapped file as a kept one", envy_open_file(m, path, &setup, 0), ENVY_NO_JOURNAL);
     is("the mapped file again", envy_open_mapped(m, path, NULL, 0), ENVY_DONE);
     holds("the mapped file again", m, 5, 8);
-    is("its end", envy_close(m), ENVY_DONE);
+    is("its end", envy_leave(m), ENVY_DONE);
 }
 
 static void over_regions(envy *m) {
@@ -191,6 +287,8 @@ int main(int count, char **words) {
     is("its sync", envy_sync(&none), ENVY_EMPTY);
     is("its end", envy_close(&none), ENVY_DONE);
     over_a_file(&m, path);
+    opened_in_each_way(&m, path);
+    over_a_disk(&m);
     snprintf(path, sizeof path, "%s/one.mapped", words[1]);
     over_a_mapped_file(&m, path);
     over_regions(&m);

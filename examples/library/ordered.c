@@ -4,24 +4,11 @@
    just what was synced last, or what was being synced. Calls that only read are also made of drawn words.
 
      ordered FILE OPERATIONS SEED */
+#include "../../c/envy.h"
 #ifdef OF_KEPT
-#include "../../c/envy_kept_file.h"
-#include "../../c/envy_kept_index.h"
-typedef envy_kept_file file;
-#define FILE_INIT ENVY_KEPT_FILE_INIT
-#define OPEN envy_kept_open_file
-#define CLOSE envy_kept_close_file
-#define CALL(name) envy_kept_##name
-#define MAP(name) envy_kept_index_##name
+#define OPEN envy_open_file
 #else
-#include "../../c/envy_file.h"
-#include "../../c/envy_index.h"
-typedef envy_file file;
-#define FILE_INIT ENVY_FILE_INIT
-#define OPEN envy_file_open
-#define CLOSE envy_file_close
-#define CALL(name) envy_mapped_##name
-#define MAP(name) envy_index_##name
+#define OPEN envy_open_mapped
 #endif
 #include "sorted.h"
 #include <signal.h>
@@ -39,7 +26,7 @@ static envy_setup setup = {
     .policy = ENVY_GREEDY, .part = 2, .limit = 3, .mark = 12,
 };
 
-static file map = FILE_INIT;
+static envy map = ENVY_INIT;
 
 static void must(int holds, const char *what) {
     if (holds) return;
@@ -103,11 +90,11 @@ static void do_operation(const model *m, const operation *o) {
     uint32_t code;
     switch (o->kind) {
     case GET:
-        code = MAP(get)(&map.memory, o->key, &word);
+        code = envy_index_get(&map, o->key, &word);
         must(code == (there ? ENVY_DONE : ENVY_ABSENT) && word == (there ? m->pair[place].value : 77), "get");
         break;
     case INSERT:
-        code = MAP(insert)(&map.memory, o->key, o->value, &before);
+        code = envy_index_insert(&map, o->key, o->value, &before);
         if (is_full(m, o)) {
             must(code == ENVY_MAP_FULL && before.value == 77 && before.had == 78, "insert into a full map");
             break;
@@ -116,23 +103,23 @@ static void do_operation(const model *m, const operation *o) {
         must(before.value == (there ? m->pair[place].value : 0), "the value before an insert");
         break;
     case REMOVE:
-        code = MAP(remove)(&map.memory, o->key, &word);
+        code = envy_index_remove(&map, o->key, &word);
         must(code == (there ? ENVY_DONE : ENVY_ABSENT) && word == (there ? m->pair[place].value : 77), "remove");
         break;
     case NEXT:
-        code = MAP(next)(&map.memory, o->key, &pair);
+        code = envy_index_next(&map, o->key, &pair);
         tells(m, place, code, &pair, "next");
         break;
     case ABOVE:
-        code = MAP(above)(&map.memory, o->key, &pair);
+        code = envy_index_above(&map, o->key, &pair);
         tells(m, place + there, code, &pair, "above");
         break;
     case LAST:
-        code = MAP(last)(&map.memory, o->key, &pair);
+        code = envy_index_last(&map, o->key, &pair);
         tells(m, place - !there, code, &pair, "last");
         break;
     case COUNT:
-        code = MAP(count)(&map.memory, &word);
+        code = envy_index_count(&map, &word);
         must(code == ENVY_DONE && word == (uint64_t)m->count, "count");
         break;
     }
@@ -146,7 +133,7 @@ static int scans(const model *m, int down, size_t n) {
     do {
         size_t count = 77;
         for (size_t i = 0; i <= n; i++) pair[i] = (envy_pair){77, 78};
-        must((down ? MAP(scan_down) : MAP(scan))(&map.memory, key, pair, n, &count) == ENVY_DONE, "a scan is done");
+        must((down ? envy_index_scan_down : envy_index_scan)(&map, key, pair, n, &count) == ENVY_DONE, "a scan is done");
         must(count <= n, "a scan goes on past n");
         for (size_t i = count; i <= n; i++) must(pair[i].key == 77 && pair[i].value == 78, "a scan writes past its pairs");
         for (size_t i = 0; i < count; i++, seen++) {
@@ -163,17 +150,17 @@ static int scans(const model *m, int down, size_t n) {
 static int holds(const model *m) {
     envy_pair pair = {0, 0};
     int i = 0;
-    uint32_t code = MAP(next)(&map.memory, 0, &pair);
-    for (; code == ENVY_DONE; code = MAP(above)(&map.memory, pair.key, &pair), i++)
+    uint32_t code = envy_index_next(&map, 0, &pair);
+    for (; code == ENVY_DONE; code = envy_index_above(&map, pair.key, &pair), i++)
         if (i == m->count || pair.key != m->pair[i].key || pair.value != m->pair[i].value) return 0;
     must(code == ENVY_ABSENT, "a scan upward");
     if (i != m->count) return 0;
-    code = MAP(last)(&map.memory, UINT64_MAX, &pair);
+    code = envy_index_last(&map, UINT64_MAX, &pair);
     while (code == ENVY_DONE) {
         if (i == 0 || pair.key != m->pair[i - 1].key) return 0;
         i--;
         if (pair.key == 0) break;
-        code = MAP(last)(&map.memory, pair.key - 1, &pair);
+        code = envy_index_last(&map, pair.key - 1, &pair);
     }
     must(code == ENVY_DONE || code == ENVY_ABSENT, "a scan downward");
     for (int down = 0; down < 2; down++)
@@ -188,8 +175,8 @@ static int holds(const model *m) {
 enum { BATCH = 16 };
 
 static void keep(uint64_t n) {
-    if (n % (100 * BATCH) == 0) must(CALL(compact)(&map.memory) == ENVY_DONE, "compact");
-    else must(CALL(sync)(&map.memory) == ENVY_DONE, "sync");
+    if (n % (100 * BATCH) == 0) must(envy_compact(&map) == ENVY_DONE, "compact");
+    else must(envy_sync(&map) == ENVY_DONE, "sync");
 }
 #else
 enum { BATCH = 1 };
@@ -199,7 +186,7 @@ static void keep(uint64_t n) { (void)n; }
 
 static void work(const char *path, uint64_t seed, uint64_t n, uint64_t end, model *m, int pipe) {
     uint32_t did;
-    must(OPEN(&map, path, &setup) == ENVY_DONE, "attach");
+    must(OPEN(&map, path, &setup, ENVY_CREATE) == ENVY_DONE, "attach");
     for (; n <= end; n++) {
         operation o = operation_of(seed, n);
         do_operation(m, &o);
@@ -208,7 +195,7 @@ static void work(const char *path, uint64_t seed, uint64_t n, uint64_t end, mode
             keep(n);
             if (write(pipe, &n, sizeof n) != sizeof n) _exit(1);
         }
-        if (n % 4 == 0) must(CALL(tick)(&map.memory, &did) == ENVY_DONE, "tick");
+        if (n % 4 == 0) must(envy_tick(&map, &did) == ENVY_DONE, "tick");
     }
     pause();
 }
@@ -247,16 +234,16 @@ static void all_answer(uint32_t code) {
     envy_old before = {77, 78};
     envy_pair pair = {77, 78};
     size_t pairs = 77;
-    must(MAP(create)(&map.memory) == code, "create is refused");
-    must(MAP(get)(&map.memory, 5, &word) == code, "get is refused");
-    must(MAP(insert)(&map.memory, 5, 50, &before) == code, "insert is refused");
-    must(MAP(remove)(&map.memory, 5, &word) == code, "remove is refused");
-    must(MAP(count)(&map.memory, &word) == code, "count is refused");
-    must(MAP(next)(&map.memory, 5, &pair) == code, "next is refused");
-    must(MAP(above)(&map.memory, 5, &pair) == code, "above is refused");
-    must(MAP(last)(&map.memory, 5, &pair) == code, "last is refused");
-    must(MAP(scan)(&map.memory, 5, &pair, 1, &pairs) == code, "scan is refused");
-    must(MAP(scan_down)(&map.memory, 5, &pair, 1, &pairs) == code, "scan_down is refused");
+    must(envy_index_create(&map) == code, "create is refused");
+    must(envy_index_get(&map, 5, &word) == code, "get is refused");
+    must(envy_index_insert(&map, 5, 50, &before) == code, "insert is refused");
+    must(envy_index_remove(&map, 5, &word) == code, "remove is refused");
+    must(envy_index_count(&map, &word) == code, "count is refused");
+    must(envy_index_next(&map, 5, &pair) == code, "next is refused");
+    must(envy_index_above(&map, 5, &pair) == code, "above is refused");
+    must(envy_index_last(&map, 5, &pair) == code, "last is refused");
+    must(envy_index_scan(&map, 5, &pair, 1, &pairs) == code, "scan is refused");
+    must(envy_index_scan_down(&map, 5, &pair, 1, &pairs) == code, "scan_down is refused");
     must(pairs == 77 && word == 77 && before.value == 77 && before.had == 78 && pair.key == 77 && pair.value == 78, "a refusal writes");
 }
 
@@ -265,13 +252,13 @@ static int broken_answers(uint64_t key) {
     static envy_pair pair[101];
     uint64_t word;
     size_t count = 0;
-    uint32_t code[] = {MAP(get)(&map.memory, key, &word), MAP(next)(&map.memory, key, pair), MAP(above)(&map.memory, key, pair),
-        MAP(last)(&map.memory, key, pair), MAP(count)(&map.memory, &word), ENVY_DONE, ENVY_DONE};
+    uint32_t code[] = {envy_index_get(&map, key, &word), envy_index_next(&map, key, pair), envy_index_above(&map, key, pair),
+        envy_index_last(&map, key, pair), envy_index_count(&map, &word), ENVY_DONE, ENVY_DONE};
     int broken = 0;
     pair[100].key = 77;
-    code[5] = MAP(scan)(&map.memory, key, pair, 100, &count);
+    code[5] = envy_index_scan(&map, key, pair, 100, &count);
     must(count <= 100, "a scan of any words");
-    code[6] = MAP(scan_down)(&map.memory, key, pair, 100, &count);
+    code[6] = envy_index_scan_down(&map, key, pair, 100, &count);
     must(count <= 100 && pair[100].key == 77, "a scan downward of any words");
     for (int i = 0; i < 7; i++) {
         must(code[i] == ENVY_DONE || code[i] == ENVY_BROKEN_MAP || (i < 4 && code[i] == ENVY_ABSENT), "an answer of any words");
@@ -287,16 +274,16 @@ static void any_words(uint64_t seed) {
     envy_old before;
     int broken = 0;
     for (uint64_t key = 0; key < 1000; key++)
-        must(MAP(insert)(&map.memory, 7 * key, key, &before) == ENVY_DONE, "insert");
+        must(envy_index_insert(&map, 7 * key, key, &before) == ENVY_DONE, "insert");
     must(broken_answers(3500) == 0, "a map isn't broken");
     for (int i = 0; i < 2000; i++) {
         uint32_t a = i < 4 ? (uint32_t)i : (uint32_t)(draw(&state) % (64 * 100));
         uint64_t drawn = draw(&state), other;
-        must(CALL(look)(&map.memory, a, &word) == ENVY_DONE, "look");
+        must(envy_look(&map, a, &word) == ENVY_DONE, "look");
         other = i % 2 ? drawn : word ^ (1ull << drawn % 64);
-        must(CALL(store)(&map.memory, a, other, &holder) == ENVY_DONE, "store");
+        must(envy_store(&map, a, other, &holder) == ENVY_DONE, "store");
         broken += broken_answers(drawn % 7000) > 0;
-        must(CALL(store)(&map.memory, a, word, &holder) == ENVY_DONE, "store");
+        must(envy_store(&map, a, word, &holder) == ENVY_DONE, "store");
     }
     must(broken > 0 && broken_answers(3500) == 0, "some words are no map");
 }
@@ -306,39 +293,39 @@ static void refusals(const char *path) {
     uint32_t slot, holder;
     uint64_t word;
     envy_old before;
-    must(CALL(new)(&map.memory) == ENVY_DONE, "a place is made");
+    must(envy_new(&map) == ENVY_DONE, "a place is made");
     all_answer(ENVY_EMPTY);
     for (int other = 0; other < 2; other++) {
         envy_setup small = setup;
         if (other) small.pages = 19;
         else small.shadows = 31;
-        must(OPEN(&map, path, &small) == ENVY_DONE, "format");
-        if (other) must(MAP(create)(&map.memory) == ENVY_MAP_SETUP, "19 pages");
+        must(OPEN(&map, path, &small, ENVY_CREATE) == ENVY_DONE, "format");
+        if (other) must(envy_index_create(&map) == ENVY_MAP_SETUP, "19 pages");
         else all_answer(ENVY_MAP_SETUP);
-        CLOSE(&map);
+        envy_close(&map);
         must(!unlink(path), "unlink");
     }
-    must(OPEN(&map, path, &setup) == ENVY_DONE, "format");
-    must(MAP(insert)(&map.memory, 5, 50, &before) == ENVY_DONE && !before.had, "zeros are a map");
-    must(CALL(begin)(&map.memory, &slot) == ENVY_DONE, "begin");
-    must(CALL(put)(&map.memory, slot, 0, 99, &holder) == ENVY_DONE, "put");
+    must(OPEN(&map, path, &setup, ENVY_CREATE) == ENVY_DONE, "format");
+    must(envy_index_insert(&map, 5, 50, &before) == ENVY_DONE && !before.had, "zeros are a map");
+    must(envy_begin(&map, &slot) == ENVY_DONE, "begin");
+    must(envy_put(&map, slot, 0, 99, &holder) == ENVY_DONE, "put");
     all_answer(ENVY_SLOT_OPEN);
-    must(CALL(abort)(&map.memory, slot) == ENVY_DONE, "abort");
-    must(MAP(get)(&map.memory, 5, &word) == ENVY_DONE && word == 50, "an aborted transaction");
+    must(envy_abort(&map, slot) == ENVY_DONE, "abort");
+    must(envy_index_get(&map, 5, &word) == ENVY_DONE && word == 50, "an aborted transaction");
     /* over other words a map begins without pairs, and leaves them */
     for (uint32_t a = 0; a < 32 * PAGES; a++)
-        must(CALL(store)(&map.memory, a, a * 0x0123456789ABCDEFull, &holder) == ENVY_DONE, "store");
-    must(MAP(create)(&map.memory) == ENVY_DONE, "create");
+        must(envy_store(&map, a, a * 0x0123456789ABCDEFull, &holder) == ENVY_DONE, "store");
+    must(envy_index_create(&map) == ENVY_DONE, "create");
     for (uint32_t a = 0; a < 32 * PAGES; a++) {
-        must(CALL(look)(&map.memory, a, &word) == ENVY_DONE, "look");
+        must(envy_look(&map, a, &word) == ENVY_DONE, "look");
         must(word == (a < 4 ? 0 : a * 0x0123456789ABCDEFull), "create leaves other words");
     }
-    must(MAP(count)(&map.memory, &word) == ENVY_DONE && word == 0, "no pairs");
+    must(envy_index_count(&map, &word) == ENVY_DONE && word == 0, "no pairs");
     must(scans(&none, 0, 100) && scans(&none, 1, 100) && scans(&none, 0, 0), "scans of no pairs");
     any_words(20);
     /* the operations begin with no pairs */
-    must(MAP(create)(&map.memory) == ENVY_DONE, "create");
-    CLOSE(&map);
+    must(envy_index_create(&map) == ENVY_DONE, "create");
+    envy_close(&map);
 }
 
 int main(int words, char **word) {
@@ -360,14 +347,14 @@ int main(int words, char **word) {
             apply(&after, &o);
         }
         kills++;
-        must(OPEN(&map, word[1], &setup) == ENVY_DONE, "attach after a kill");
+        must(OPEN(&map, word[1], &setup, ENVY_CREATE) == ENVY_DONE, "attach after a kill");
         if (!holds(&before)) {
             must(holds(&after), "the map is neither that of the last answer nor that of what was in flight");
             before = after;
             last += BATCH;
             in_flight++;
         }
-        CLOSE(&map);
+        envy_close(&map);
     }
     printf("%llu operations on a map of up to %d pairs, %d kills, %d operations done but not yet answered\n",
            (unsigned long long)last, most, kills, in_flight);

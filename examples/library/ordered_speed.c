@@ -5,9 +5,7 @@
 
    Phases, in this order: 1 inserts the pairs, 2 looks each up, 3 goes over all by rising key, 4 takes each out. It writes a line for
    each, with its microseconds for each pair. */
-#include "../../c/envy_file.h"
-#include "../../c/envy_index.h"
-#include "../../c/envy_map.h"
+#include "../../c/envy.h"
 #include <lmdb.h>
 #include <sqlite3.h>
 #include <stdio.h>
@@ -41,8 +39,8 @@ static uint64_t together = 1;
 
 /* ---- this library */
 
-static envy_file map = ENVY_FILE_INIT;
-/* the whole array, and the open transaction of it; a change alone is a call of envy_index.h */
+static envy map = ENVY_INIT;
+/* the whole array, and the open transaction of it; a change alone is a call of the map of the whole array */
 static envy_map whole;
 static uint32_t slot;
 
@@ -54,18 +52,18 @@ static void envy_open(const char *path, uint64_t pairs) {
         .policy = ENVY_GREEDY, .part = 2, .limit = 100, .mark = 256,
     };
     whole = (envy_map){0, 32 * pages};
-    must(envy_file_open(&map, path, &setup) == ENVY_DONE, "format");
+    must(envy_open_mapped(&map, path, &setup, ENVY_CREATE) == ENVY_DONE, "format");
 }
 
 static void map_insert(uint64_t key, uint64_t value) {
     envy_old before;
-    must((together > 1 ? envy_map_insert(&map.memory, slot, &whole, key, value, &before)
-                       : envy_index_insert(&map.memory, key, value, &before)) == ENVY_DONE, "insert");
+    must((together > 1 ? envy_map_insert(&map, slot, &whole, key, value, &before)
+                       : envy_index_insert(&map, key, value, &before)) == ENVY_DONE, "insert");
 }
 
 static uint64_t map_get(uint64_t key) {
     uint64_t value;
-    must(envy_index_get(&map.memory, key, &value) == ENVY_DONE, "get");
+    must(envy_index_get(&map, key, &value) == ENVY_DONE, "get");
     return value;
 }
 
@@ -77,7 +75,7 @@ static uint64_t map_scan(uint64_t *sum) {
     uint64_t n = 0, key = 0;
     size_t count;
     do {
-        must(envy_index_scan(&map.memory, key, pair, AT_ONCE, &count) == ENVY_DONE, "scan");
+        must(envy_index_scan(&map, key, pair, AT_ONCE, &count) == ENVY_DONE, "scan");
         for (size_t i = 0; i < count; i++) *sum += pair[i].value;
         if (count) key = pair[count - 1].key + 1; /* no key of this program is the last of all */
         n += count;
@@ -87,16 +85,16 @@ static uint64_t map_scan(uint64_t *sum) {
 
 static void map_remove(uint64_t key) {
     uint64_t value;
-    must((together > 1 ? envy_map_remove(&map.memory, slot, &whole, key, &value)
-                       : envy_index_remove(&map.memory, key, &value)) == ENVY_DONE, "remove");
+    must((together > 1 ? envy_map_remove(&map, slot, &whole, key, &value)
+                       : envy_index_remove(&map, key, &value)) == ENVY_DONE, "remove");
 }
 
 static void map_begin(void) {
-    if (together > 1) must(envy_map_begin(&map.memory, &slot) == ENVY_DONE, "begin");
+    if (together > 1) must(envy_map_begin(&map, &slot) == ENVY_DONE, "begin");
 }
 
 static void map_commit(void) {
-    if (together > 1) must(envy_map_commit(&map.memory, slot) == ENVY_DONE, "commit");
+    if (together > 1) must(envy_map_commit(&map, slot) == ENVY_DONE, "commit");
 }
 
 /* ---- LMDB */

@@ -1,12 +1,13 @@
-/* Every answer of envy_mapped.h but ENVY_NO_MEMORY: what is opened that is truncated, foreign, older, of another shape
+/* Every answer over a mapped file but ENVY_NO_MEMORY: what is opened that is truncated, foreign, older, of another shape
    or damaged is refused by its own number, and not a byte of it changes.
 
      refused FILE */
-#include "../../c/envy_file.h"
+#include "../../c/envy.h"
 #include "../../c/envy_text.h"
 #include <stdio.h>
 #include <stdlib.h>
 #include <string.h>
+#include <sys/stat.h>
 
 /* Of this shape the map of SRAM has the fields at these words. */
 enum { SEGMENTS = 8, ROWS = 16, PAGES = 64, SHADOWS = 16 };
@@ -17,7 +18,7 @@ static const envy_setup setup = {
     .policy = ENVY_GREEDY, .part = 2, .limit = 100, .mark = 8,
 };
 
-static envy_file map = ENVY_FILE_INIT;
+static envy map = ENVY_INIT;
 static char *whole, *changed;
 static size_t bytes;
 static const char *path;
@@ -44,10 +45,10 @@ static void refuses(int line, const envy_setup *given, size_t n, uint32_t code) 
     char *found = malloc(n + 1);
     uint64_t word = 77;
     write_file(changed, n);
-    want(line, envy_file_open(&map, path, given), code);
+    want(line, envy_open_mapped(&map, path, given, ENVY_CREATE), code);
     read_file(found, n);
     want(line, memcmp(found, changed, n) == 0, 1);
-    want(line, envy_mapped_load(&map.memory, 0, &word), ENVY_EMPTY);
+    want(line, envy_load(&map, 0, &word), ENVY_EMPTY);
     want(line, word, 77);
     free(found);
     memcpy(changed, whole, bytes);
@@ -174,196 +175,196 @@ static void setups(void) {
     bad[13].policy = 5;
     for (int i = 0; i < 14; i++) {
         envy_sizes sizes = {1, 2, 3};
-        WANT(envy_mapped_sizes(&bad[i], &sizes), code[i]);
+        WANT(envy_region_sizes(&bad[i], &sizes), code[i]);
         WANT(sizes.rows == 1 && sizes.words == 2 && sizes.erases == 3, 1);
-        /* envy_file_open asks for the sizes first, so the regions are given here */
+        /* envy_open_mapped asks for the sizes first, so the regions are given here */
         envy_rows flash = {(uint64_t (*)[32])changed, SEGMENTS * ROWS};
         envy_words sram = {word_at(0), 559}, erases = {word_at(559), SEGMENTS};
-        WANT(envy_mapped_attach(&map.memory, &bad[i], flash, sram, erases), code[i]);
-        WANT(envy_mapped_format(&map.memory, &bad[i], flash, sram, erases), code[i]);
+        WANT(envy_open_regions(&map, &bad[i], flash, sram, erases), code[i]);
+        WANT(envy_format_regions(&map, &bad[i], flash, sram, erases), code[i]);
         WANT(memcmp(changed, whole, bytes), 0);
     }
 }
 
 /* Each answer of a call of an open memory. */
 static void calls(void) {
-    envy_mapped *m = &map.memory;
+    envy *m = &map;
     uint64_t word = 5;
     uint32_t slot = 99, holder = 99, other = 99;
     envy_counts counts;
-    WANT(envy_mapped_load(m, 32 * PAGES, &word), ENVY_RANGE);
-    WANT(envy_mapped_look(m, UINT32_MAX, &word), ENVY_RANGE);
-    WANT(envy_mapped_store(m, 32 * PAGES, 1, &holder), ENVY_RANGE);
+    WANT(envy_load(m, 32 * PAGES, &word), ENVY_RANGE);
+    WANT(envy_look(m, UINT32_MAX, &word), ENVY_RANGE);
+    WANT(envy_store(m, 32 * PAGES, 1, &holder), ENVY_RANGE);
     WANT(word == 5 && holder == 99, 1);
-    WANT(envy_mapped_store(m, 7, 70, &holder), ENVY_DONE);
-    WANT(envy_mapped_begin(m, &slot), ENVY_DONE);
+    WANT(envy_store(m, 7, 70, &holder), ENVY_DONE);
+    WANT(envy_begin(m, &slot), ENVY_DONE);
     WANT(slot, 0);
-    WANT(envy_mapped_begin(m, &other), ENVY_DONE);
+    WANT(envy_begin(m, &other), ENVY_DONE);
     WANT(other, 1);
-    WANT(envy_mapped_put(m, slot, 7, 71, &holder), ENVY_DONE);
+    WANT(envy_put(m, slot, 7, 71, &holder), ENVY_DONE);
     WANT(holder, 99);
-    WANT(envy_mapped_put(m, other, 8, 1, &holder), ENVY_HELD);
+    WANT(envy_put(m, other, 8, 1, &holder), ENVY_HELD);
     WANT(holder, 0);
     holder = 99;
-    WANT(envy_mapped_store(m, 9, 1, &holder), ENVY_HELD);
+    WANT(envy_store(m, 9, 1, &holder), ENVY_HELD);
     WANT(holder, 0);
-    WANT(envy_mapped_load(m, 7, &word), ENVY_DONE);
+    WANT(envy_load(m, 7, &word), ENVY_DONE);
     WANT(word, 71);
-    WANT(envy_mapped_look(m, 7, &word), ENVY_DONE);
+    WANT(envy_look(m, 7, &word), ENVY_DONE);
     WANT(word, 70);
-    WANT(envy_mapped_put(m, 256, 7, 72, &holder), ENVY_CLOSED);
-    WANT(envy_mapped_put(m, 64, 7, 72, &holder), ENVY_CLOSED);
-    WANT(envy_mapped_put(m, 64, 32 * PAGES, 72, &holder), ENVY_RANGE);
-    WANT(envy_mapped_commit(m, 256), ENVY_CLOSED);
-    WANT(envy_mapped_abort(m, UINT32_MAX), ENVY_CLOSED);
-    WANT(envy_mapped_abort(m, slot), ENVY_DONE);
-    WANT(envy_mapped_abort(m, slot), ENVY_CLOSED);
-    WANT(envy_mapped_load(m, 7, &word), ENVY_DONE);
+    WANT(envy_put(m, 256, 7, 72, &holder), ENVY_CLOSED);
+    WANT(envy_put(m, 64, 7, 72, &holder), ENVY_CLOSED);
+    WANT(envy_put(m, 64, 32 * PAGES, 72, &holder), ENVY_RANGE);
+    WANT(envy_commit(m, 256), ENVY_CLOSED);
+    WANT(envy_abort(m, UINT32_MAX), ENVY_CLOSED);
+    WANT(envy_abort(m, slot), ENVY_DONE);
+    WANT(envy_abort(m, slot), ENVY_CLOSED);
+    WANT(envy_load(m, 7, &word), ENVY_DONE);
     WANT(word, 70);
-    for (uint32_t p = 0; p < SHADOWS; p++) WANT(envy_mapped_put(m, other, 32 * p, p, &holder), ENVY_DONE);
-    WANT(envy_mapped_put(m, other, 32 * SHADOWS, 1, &holder), ENVY_FULL);
-    WANT(envy_mapped_commit(m, other), ENVY_DONE);
-    for (uint32_t t = 0; t < 64; t++) WANT(envy_mapped_begin(m, &slot), ENVY_DONE);
+    for (uint32_t p = 0; p < SHADOWS; p++) WANT(envy_put(m, other, 32 * p, p, &holder), ENVY_DONE);
+    WANT(envy_put(m, other, 32 * SHADOWS, 1, &holder), ENVY_FULL);
+    WANT(envy_commit(m, other), ENVY_DONE);
+    for (uint32_t t = 0; t < 64; t++) WANT(envy_begin(m, &slot), ENVY_DONE);
     slot = 99;
-    WANT(envy_mapped_begin(m, &slot), ENVY_BUSY);
+    WANT(envy_begin(m, &slot), ENVY_BUSY);
     WANT(slot, 99);
-    WANT(envy_mapped_counts(m, &counts), ENVY_DONE);
+    WANT(envy_counters(m, &counts), ENVY_DONE);
     WANT(counts.hits + counts.misses > 0 && counts.flushes > 0, 1);
-    WANT(envy_mapped_tick(m, &holder), ENVY_DONE);
+    WANT(envy_tick(m, &holder), ENVY_DONE);
 }
 
 /* The words of a run outside transactions: over three pages, and up to one that a transaction owns, or past the last. */
 static void stored_in_a_row(void) {
     enum { LAST = 32 * PAGES - 1 };
-    envy_mapped *m = &map.memory;
+    envy *m = &map;
     uint64_t words[80], found[80], word;
     uint32_t slot, holder = 99;
     size_t done = 99;
     envy_counts before, after;
     for (int i = 0; i < 80; i++) words[i] = 3000 + i;
-    WANT(envy_mapped_counts(m, &before), ENVY_DONE);
-    WANT(envy_mapped_store_run(m, 180, words, 80, &done, &holder), ENVY_DONE);
+    WANT(envy_counters(m, &before), ENVY_DONE);
+    WANT(envy_store_run(m, 180, words, 80, &done, &holder), ENVY_DONE);
     WANT(done == 80 && holder == 99, 1);
-    WANT(envy_mapped_counts(m, &after), ENVY_DONE);
+    WANT(envy_counters(m, &after), ENVY_DONE);
     WANT(after.hits + after.misses, before.hits + before.misses + 4);
-    WANT(envy_mapped_read(m, 180, found, 80), ENVY_DONE);
+    WANT(envy_read(m, 180, found, 80), ENVY_DONE);
     WANT(memcmp(words, found, sizeof words), 0);
-    WANT(envy_mapped_look(m, 259, &word), ENVY_DONE);
+    WANT(envy_look(m, 259, &word), ENVY_DONE);
     WANT(word, 3079);
     for (int i = 0; i < 80; i++) words[i] = 180 + i;
-    WANT(envy_mapped_begin(m, &slot), ENVY_DONE);
-    WANT(envy_mapped_put(m, slot, 224, 5, &holder), ENVY_DONE);
-    WANT(envy_mapped_store_run(m, 180, words, 80, &done, &holder), ENVY_HELD);
+    WANT(envy_begin(m, &slot), ENVY_DONE);
+    WANT(envy_put(m, slot, 224, 5, &holder), ENVY_DONE);
+    WANT(envy_store_run(m, 180, words, 80, &done, &holder), ENVY_HELD);
     WANT(done == 44 && holder == slot, 1);
-    WANT(envy_mapped_look(m, 223, &word), ENVY_DONE);
+    WANT(envy_look(m, 223, &word), ENVY_DONE);
     WANT(word, 223);
-    WANT(envy_mapped_look(m, 224, &word), ENVY_DONE);
+    WANT(envy_look(m, 224, &word), ENVY_DONE);
     WANT(word, 3044);
-    WANT(envy_mapped_store_run(m, 225, words, 1, &done, &holder), ENVY_HELD);
+    WANT(envy_store_run(m, 225, words, 1, &done, &holder), ENVY_HELD);
     WANT(done, 0);
-    WANT(envy_mapped_abort(m, slot), ENVY_DONE);
-    WANT(envy_mapped_store_run(m, 180, words, 80, &done, &holder), ENVY_DONE);
+    WANT(envy_abort(m, slot), ENVY_DONE);
+    WANT(envy_store_run(m, 180, words, 80, &done, &holder), ENVY_DONE);
     words[0] = LAST;
-    WANT(envy_mapped_store_run(m, LAST, words, 3, &done, &holder), ENVY_RANGE);
+    WANT(envy_store_run(m, LAST, words, 3, &done, &holder), ENVY_RANGE);
     WANT(done, 1);
-    WANT(envy_mapped_store_run(m, UINT32_MAX, words, 3, &done, &holder), ENVY_RANGE);
+    WANT(envy_store_run(m, UINT32_MAX, words, 3, &done, &holder), ENVY_RANGE);
     WANT(done, 0);
-    WANT(envy_mapped_store_run(m, UINT32_MAX, words, 0, &done, &holder), ENVY_DONE);
+    WANT(envy_store_run(m, UINT32_MAX, words, 0, &done, &holder), ENVY_DONE);
 }
 
 /* A run that meets more pages without an owner than may yet be owned is refused before its first word. */
 static void no_room(void) {
-    envy_mapped *m = &map.memory;
+    envy *m = &map;
     uint64_t words[32 * SHADOWS], word;
     uint32_t slot, other, holder = 99;
     size_t done = 99;
     for (int i = 0; i < 32 * SHADOWS; i++) words[i] = 9000 + i;
-    WANT(envy_mapped_begin(m, &slot), ENVY_DONE);
-    WANT(envy_mapped_begin(m, &other), ENVY_DONE);
-    WANT(envy_mapped_write(m, slot, 1, words, 32 * SHADOWS, &done, &holder), ENVY_FULL);
+    WANT(envy_begin(m, &slot), ENVY_DONE);
+    WANT(envy_begin(m, &other), ENVY_DONE);
+    WANT(envy_write(m, slot, 1, words, 32 * SHADOWS, &done, &holder), ENVY_FULL);
     WANT(done == 0 && holder == 99, 1);
-    WANT(envy_mapped_load(m, 1, &word), ENVY_DONE);
+    WANT(envy_load(m, 1, &word), ENVY_DONE);
     WANT(word, 1);
-    WANT(envy_mapped_store(m, 1, 1, &holder), ENVY_DONE); /* no page came to be owned */
+    WANT(envy_store(m, 1, 1, &holder), ENVY_DONE); /* no page came to be owned */
     /* pages that a transaction owns count no more, and neither do those past the last */
-    WANT(envy_mapped_put(m, other, 32 * 2, 5, &holder), ENVY_DONE);
-    WANT(envy_mapped_write(m, slot, 1, words, 32 * (SHADOWS - 1), &done, &holder), ENVY_HELD);
+    WANT(envy_put(m, other, 32 * 2, 5, &holder), ENVY_DONE);
+    WANT(envy_write(m, slot, 1, words, 32 * (SHADOWS - 1), &done, &holder), ENVY_HELD);
     WANT(done == 63 && holder == other, 1);
-    WANT(envy_mapped_abort(m, slot), ENVY_DONE);
-    WANT(envy_mapped_begin(m, &slot), ENVY_DONE);
-    WANT(envy_mapped_write(m, slot, 32 * (PAGES - SHADOWS + 1), words, 32 * SHADOWS, &done, &holder), ENVY_RANGE);
+    WANT(envy_abort(m, slot), ENVY_DONE);
+    WANT(envy_begin(m, &slot), ENVY_DONE);
+    WANT(envy_write(m, slot, 32 * (PAGES - SHADOWS + 1), words, 32 * SHADOWS, &done, &holder), ENVY_RANGE);
     WANT(done, 32 * (SHADOWS - 1));
-    WANT(envy_mapped_write(m, slot, 1, words, 31, &done, &holder), ENVY_FULL);
+    WANT(envy_write(m, slot, 1, words, 31, &done, &holder), ENVY_FULL);
     WANT(done, 0);
-    WANT(envy_mapped_write(m, 64, 1, words, 31, &done, &holder), ENVY_CLOSED);
-    WANT(envy_mapped_abort(m, other), ENVY_DONE);
-    WANT(envy_mapped_write(m, slot, 1, words, 31, &done, &holder), ENVY_DONE);
-    WANT(envy_mapped_abort(m, slot), ENVY_DONE);
+    WANT(envy_write(m, 64, 1, words, 31, &done, &holder), ENVY_CLOSED);
+    WANT(envy_abort(m, other), ENVY_DONE);
+    WANT(envy_write(m, slot, 1, words, 31, &done, &holder), ENVY_DONE);
+    WANT(envy_abort(m, slot), ENVY_DONE);
 }
 
 /* Several words in one call, and what each transaction sees. */
 static void several(void) {
     enum { LAST = 32 * PAGES - 1 };
-    envy_mapped *m = &map.memory;
+    envy *m = &map;
     uint64_t words[80], found[80], word = 5;
     uint32_t slot, other, holder = 99;
     size_t done = 99;
     for (int i = 0; i < 80; i++) words[i] = 1000 + i;
     for (int i = 0; i < 80; i++) found[i] = 7;
-    WANT(envy_mapped_begin(m, &slot), ENVY_DONE);
-    WANT(envy_mapped_begin(m, &other), ENVY_DONE);
+    WANT(envy_begin(m, &slot), ENVY_DONE);
+    WANT(envy_begin(m, &other), ENVY_DONE);
     /* from within a page over the next into a third */
-    WANT(envy_mapped_write(m, slot, 20, words, 80, &done, &holder), ENVY_DONE);
+    WANT(envy_write(m, slot, 20, words, 80, &done, &holder), ENVY_DONE);
     WANT(done == 80 && holder == 99, 1);
-    WANT(envy_mapped_read(m, 20, found, 80), ENVY_DONE);
+    WANT(envy_read(m, 20, found, 80), ENVY_DONE);
     WANT(memcmp(words, found, sizeof words), 0);
-    WANT(envy_mapped_view(m, slot, 21, &word), ENVY_DONE);
+    WANT(envy_view(m, slot, 21, &word), ENVY_DONE);
     WANT(word, 1001);
-    WANT(envy_mapped_view(m, other, 21, &word), ENVY_DONE);
+    WANT(envy_view(m, other, 21, &word), ENVY_DONE);
     WANT(word, 21);
-    WANT(envy_mapped_view(m, 64, 21, &word), ENVY_DONE);
+    WANT(envy_view(m, 64, 21, &word), ENVY_DONE);
     WANT(word, 21);
-    WANT(envy_mapped_view(m, slot, LAST + 1, &word), ENVY_RANGE);
+    WANT(envy_view(m, slot, LAST + 1, &word), ENVY_RANGE);
     WANT(word, 21);
     /* two words are put before the first of a page that another slot owns */
-    WANT(envy_mapped_write(m, other, 32 * 4, words, 1, &done, &holder), ENVY_DONE);
-    WANT(envy_mapped_abort(m, slot), ENVY_DONE);
-    WANT(envy_mapped_begin(m, &slot), ENVY_DONE);
-    WANT(envy_mapped_put(m, slot, 96, 5, &holder), ENVY_DONE);
-    WANT(envy_mapped_write(m, other, 94, words, 80, &done, &holder), ENVY_HELD);
+    WANT(envy_write(m, other, 32 * 4, words, 1, &done, &holder), ENVY_DONE);
+    WANT(envy_abort(m, slot), ENVY_DONE);
+    WANT(envy_begin(m, &slot), ENVY_DONE);
+    WANT(envy_put(m, slot, 96, 5, &holder), ENVY_DONE);
+    WANT(envy_write(m, other, 94, words, 80, &done, &holder), ENVY_HELD);
     WANT(done == 2 && holder == slot, 1);
-    WANT(envy_mapped_load(m, 94, &word), ENVY_DONE);
+    WANT(envy_load(m, 94, &word), ENVY_DONE);
     WANT(word, 1000);
-    WANT(envy_mapped_load(m, 95, &word), ENVY_DONE);
+    WANT(envy_load(m, 95, &word), ENVY_DONE);
     WANT(word, 1001);
-    WANT(envy_mapped_load(m, 97, &word), ENVY_DONE);
+    WANT(envy_load(m, 97, &word), ENVY_DONE);
     WANT(word, 97);
     holder = 99;
-    WANT(envy_mapped_write(m, other, LAST, words, 3, &done, &holder), ENVY_RANGE);
+    WANT(envy_write(m, other, LAST, words, 3, &done, &holder), ENVY_RANGE);
     WANT(done == 1 && holder == 99, 1);
-    WANT(envy_mapped_write(m, other, UINT32_MAX, words, 3, &done, &holder), ENVY_RANGE);
+    WANT(envy_write(m, other, UINT32_MAX, words, 3, &done, &holder), ENVY_RANGE);
     WANT(done, 0);
-    WANT(envy_mapped_write(m, 64, 0, words, 3, &done, &holder), ENVY_CLOSED);
+    WANT(envy_write(m, 64, 0, words, 3, &done, &holder), ENVY_CLOSED);
     WANT(done, 0);
-    WANT(envy_mapped_write(m, 64, UINT32_MAX, words, 0, &done, &holder), ENVY_DONE);
-    WANT(envy_mapped_abort(m, other), ENVY_DONE);
-    WANT(envy_mapped_abort(m, slot), ENVY_DONE);
+    WANT(envy_write(m, 64, UINT32_MAX, words, 0, &done, &holder), ENVY_DONE);
+    WANT(envy_abort(m, other), ENVY_DONE);
+    WANT(envy_abort(m, slot), ENVY_DONE);
     stored_in_a_row();
     no_room();
     /* a read is whole or not at all */
     memset(found, 0, sizeof found);
-    WANT(envy_mapped_read(m, LAST - 78, found, 80), ENVY_RANGE);
-    WANT(envy_mapped_read(m, UINT32_MAX, found, 80), ENVY_RANGE);
+    WANT(envy_read(m, LAST - 78, found, 80), ENVY_RANGE);
+    WANT(envy_read(m, UINT32_MAX, found, 80), ENVY_RANGE);
     for (int i = 0; i < 80; i++) WANT(found[i], 0);
-    WANT(envy_mapped_read(m, LAST - 79, found, 80), ENVY_DONE);
+    WANT(envy_read(m, LAST - 79, found, 80), ENVY_DONE);
     for (int i = 0; i < 80; i++) WANT(found[i], LAST - 79 + i);
-    WANT(envy_mapped_read(m, UINT32_MAX, found, 0), ENVY_DONE);
+    WANT(envy_read(m, UINT32_MAX, found, 0), ENVY_DONE);
 }
 
 /* The shape of a file, by its first words of SRAM and by the file. */
 static void shapes(void) {
     envy_setup found = {0}, none = {0};
-    WANT(envy_mapped_shape(word_at(0), 5, &found), ENVY_DONE);
+    WANT(envy_sram_shape(word_at(0), 5, &found), ENVY_DONE);
     WANT(found.segments == SEGMENTS && found.rows == ROWS && found.pages == PAGES && found.shadows == SHADOWS, 1);
     WANT(found.frames == 8 && found.entries == 4 && found.policy == ENVY_GREEDY && found.limit == 100, 1);
     WANT(found.part == 2 && found.mark == 8, 1);
@@ -372,51 +373,51 @@ static void shapes(void) {
     WANT(envy_file_shape(path, &found), ENVY_DONE);
     WANT(found.segments == SEGMENTS && found.entries == 4, 1);
     found = none;
-    WANT(envy_mapped_shape(word_at(0), 4, &found), ENVY_UNFORMATTED);
-    WANT(envy_mapped_shape(word_at(1), 5, &found), ENVY_UNFORMATTED);
+    WANT(envy_sram_shape(word_at(0), 4, &found), ENVY_UNFORMATTED);
+    WANT(envy_sram_shape(word_at(1), 5, &found), ENVY_UNFORMATTED);
     *word_at(4) += 1ull << 48;
-    WANT(envy_mapped_shape(word_at(0), 5, &found), ENVY_SETUP_FRAMES);
+    WANT(envy_sram_shape(word_at(0), 5, &found), ENVY_SETUP_FRAMES);
     *word_at(VERSION) = 1;
-    WANT(envy_mapped_shape(word_at(0), 5, &found), ENVY_OLDER);
+    WANT(envy_sram_shape(word_at(0), 5, &found), ENVY_OLDER);
     write_file(changed, bytes);
     WANT(envy_file_shape(path, &found), ENVY_OLDER);
     *word_at(VERSION) = 3;
-    WANT(envy_mapped_shape(word_at(0), 5, &found), ENVY_UNFORMATTED);
+    WANT(envy_sram_shape(word_at(0), 5, &found), ENVY_UNFORMATTED);
     memcpy(changed, whole, bytes);
     write_file(changed, bytes - 8);
-    WANT(envy_file_shape(path, &found), ENVY_UNFORMATTED);
+    WANT(envy_file_shape(path, &found), ENVY_NO_JOURNAL);
     write_file(changed, 0);
-    WANT(envy_file_shape(path, &found), ENVY_UNFORMATTED);
+    WANT(envy_file_shape(path, &found), ENVY_NO_JOURNAL);
     WANT(envy_file_shape("/nowhere/at/all", &found), ENVY_SYSTEM);
     WANT(memcmp(&found, &none, sizeof found), 0);
 }
 
 static void open_and_empty(void) {
-    envy_mapped *m = &map.memory;
+    envy *m = &map;
     uint64_t word = 5;
     uint32_t number = 99;
     envy_counts counts;
     envy_rows flash = {(uint64_t (*)[32])changed, SEGMENTS * ROWS};
     envy_words sram = {word_at(0), 559}, erases = {word_at(559), SEGMENTS};
-    WANT(envy_mapped_attach(m, &setup, flash, sram, erases), ENVY_OPEN);
-    WANT(envy_mapped_format(m, &setup, flash, sram, erases), ENVY_OPEN);
+    WANT(envy_open_regions(m, &setup, flash, sram, erases), ENVY_OPEN);
+    WANT(envy_format_regions(m, &setup, flash, sram, erases), ENVY_OPEN);
     WANT(memcmp(changed, whole, bytes), 0);
-    envy_file_close(&map);
-    envy_mapped_close(m);
-    WANT(envy_mapped_load(m, 0, &word), ENVY_EMPTY);
-    WANT(envy_mapped_look(m, 0, &word), ENVY_EMPTY);
-    WANT(envy_mapped_store(m, 0, 1, &number), ENVY_EMPTY);
-    WANT(envy_mapped_begin(m, &number), ENVY_EMPTY);
-    WANT(envy_mapped_put(m, 0, 0, 1, &number), ENVY_EMPTY);
-    WANT(envy_mapped_commit(m, 0), ENVY_EMPTY);
-    WANT(envy_mapped_abort(m, 0), ENVY_EMPTY);
-    WANT(envy_mapped_tick(m, &number), ENVY_EMPTY);
-    WANT(envy_mapped_counts(m, &counts), ENVY_EMPTY);
-    WANT(envy_mapped_read(m, 0, &word, 1), ENVY_EMPTY);
-    WANT(envy_mapped_view(m, 0, 0, &word), ENVY_EMPTY);
+    envy_close(&map);
+    envy_close(m);
+    WANT(envy_load(m, 0, &word), ENVY_EMPTY);
+    WANT(envy_look(m, 0, &word), ENVY_EMPTY);
+    WANT(envy_store(m, 0, 1, &number), ENVY_EMPTY);
+    WANT(envy_begin(m, &number), ENVY_EMPTY);
+    WANT(envy_put(m, 0, 0, 1, &number), ENVY_EMPTY);
+    WANT(envy_commit(m, 0), ENVY_EMPTY);
+    WANT(envy_abort(m, 0), ENVY_EMPTY);
+    WANT(envy_tick(m, &number), ENVY_EMPTY);
+    WANT(envy_counters(m, &counts), ENVY_EMPTY);
+    WANT(envy_read(m, 0, &word, 1), ENVY_EMPTY);
+    WANT(envy_view(m, 0, 0, &word), ENVY_EMPTY);
     size_t done = 99;
-    WANT(envy_mapped_write(m, 0, 0, &word, 1, &done, &number), ENVY_EMPTY);
-    WANT(envy_mapped_store_run(m, 0, &word, 1, &done, &number), ENVY_EMPTY);
+    WANT(envy_write(m, 0, 0, &word, 1, &done, &number), ENVY_EMPTY);
+    WANT(envy_store_run(m, 0, &word, 1, &done, &number), ENVY_EMPTY);
     WANT(done, 0);
     WANT(word == 5 && number == 99, 1);
 }
@@ -425,10 +426,12 @@ int main(int words, char **word) {
     uint32_t holder;
     if (words != 2) return 2;
     path = word[1];
-    WANT(envy_file_open(&map, path, &setup), ENVY_DONE);
-    for (uint32_t a = 0; a < 32 * PAGES; a++) WANT(envy_mapped_store(&map.memory, a, a, &holder), ENVY_DONE);
-    bytes = map.bytes;
-    envy_file_close(&map);
+    WANT(envy_open_mapped(&map, path, &setup, ENVY_CREATE), ENVY_DONE);
+    for (uint32_t a = 0; a < 32 * PAGES; a++) WANT(envy_store(&map, a, a, &holder), ENVY_DONE);
+    struct stat found;
+    WANT(stat(path, &found), 0);
+    bytes = (size_t)found.st_size;
+    envy_close(&map);
     whole = malloc(bytes);
     changed = malloc(bytes);
     read_file(whole, bytes);
@@ -439,7 +442,7 @@ int main(int words, char **word) {
     setups();
     shapes();
     write_file(whole, bytes);
-    WANT(envy_file_open(&map, path, &setup), ENVY_DONE);
+    WANT(envy_open_mapped(&map, path, &setup, ENVY_CREATE), ENVY_DONE);
     several();
     calls();
     open_and_empty();

@@ -2,7 +2,7 @@
    use of at most 80 rows in 100, and a file of it opens; what has none is refused by its cause.
 
      sized FILE */
-#include "../../c/envy_file.h"
+#include "../../c/envy.h"
 #include "../../c/envy_setup.h"
 #include "../../c/envy_text.h"
 #include <stdio.h>
@@ -20,7 +20,7 @@ static void fits(uint64_t words, uint32_t owned) {
     envy_setup s = {0};
     envy_sizes sizes;
     must(envy_setup_for(words, owned, &s) == ENVY_DONE, words, owned, "refused");
-    must(envy_mapped_sizes(&s, &sizes) == ENVY_DONE, words, owned, "it breaks a rule");
+    must(envy_region_sizes(&s, &sizes) == ENVY_DONE, words, owned, "it breaks a rule");
     must(32 * (uint64_t)s.pages >= words && 32 * (uint64_t)(s.pages - 1) < words, words, owned, "pages");
     must(s.shadows == owned, words, owned, "shadows");
     must(100 * ((uint64_t)s.pages + s.shadows) <= 80 * sizes.rows, words, owned, "use");
@@ -49,19 +49,19 @@ int main(int words, char **word) {
     refused(0, 1, ENVY_SETUP_PAGES);
 
     envy_setup setup, found;
-    envy_file f = ENVY_FILE_INIT;
+    envy f = ENVY_INIT;
     uint32_t holder;
     uint64_t last;
     must(envy_setup_for(100000, 20, &setup) == ENVY_DONE, 100000, 20, "refused");
-    must(envy_file_open(&f, word[1], &setup) == ENVY_DONE, 100000, 20, "no file is made");
-    must(envy_mapped_store(&f.memory, 99999, 5, &holder) == ENVY_DONE, 100000, 20, "store");
-    must(envy_file_close(&f) == ENVY_DONE, 100000, 20, "close");
+    must(envy_open_mapped(&f, word[1], &setup, ENVY_CREATE) == ENVY_DONE, 100000, 20, "no file is made");
+    must(envy_store(&f, 99999, 5, &holder) == ENVY_DONE, 100000, 20, "store");
+    must(envy_close(&f) == ENVY_DONE, 100000, 20, "close");
     must(envy_file_shape(word[1], &found) == ENVY_DONE, 100000, 20, "no shape is found");
     must(found.segments == setup.segments && found.rows == setup.rows && found.entries == setup.entries, 100000, 20,
          "another shape is found");
-    must(envy_file_open(&f, word[1], &found) == ENVY_DONE, 100000, 20, "its own shape doesn't open it");
-    must(envy_mapped_load(&f.memory, 99999, &last) == ENVY_DONE && last == 5, 100000, 20, "a word is lost");
-    must(envy_file_close(&f) == ENVY_DONE, 100000, 20, "close");
+    must(envy_open_mapped(&f, word[1], &found, ENVY_CREATE) == ENVY_DONE, 100000, 20, "its own shape doesn't open it");
+    must(envy_load(&f, 99999, &last) == ENVY_DONE && last == 5, 100000, 20, "a word is lost");
+    must(envy_close(&f) == ENVY_DONE, 100000, 20, "close");
     unlink(word[1]);
     puts("a setup for so many words has room for them, and what has none is refused");
     return 0;

@@ -18,13 +18,21 @@ pub enum Error {
     Busy,
     /// The slot isn't open.
     Closed,
+    /// A flash operation failed, and no word changed. Of a board that can be made to fail.
+    Bad,
+    /// Power doesn't return: no life is left. Of a board that can be made to fail.
+    Dead,
+    /// Power is on already. Of a board that can be made to fail.
+    Powered,
+    /// What the memory stands over can't do this.
+    OtherBoard,
     /// The heap gave nothing.
     NoMemory,
-    /// The file's flash hasn't as many rows as the setup asks.
+    /// The flash of a mapped file, or of regions, hasn't as many rows as the setup asks.
     FlashSize,
-    /// The file's SRAM hasn't as many words as the setup asks.
+    /// The SRAM hasn't as many words as the setup asks.
     SramSize,
-    /// The file hasn't as many counts of erases as the setup has segments.
+    /// There aren't as many counts of erases as the setup has segments.
     ErasesSize,
     /// No policy has the setup's number.
     Policy,
@@ -48,7 +56,8 @@ pub enum Error {
     BrokenMap,
     /// A flash operation failed, and the transaction of maps was aborted.
     BadAborted,
-    /// The file failed, for this reason: open it again. Of kept files alone.
+    /// The file failed, for this reason: open it again. Or power is off or failed in the call, of a board that can be made to
+    /// fail.
     Off(io::Error),
     /// The file holds no memory. Of kept files alone.
     NoJournal,
@@ -165,7 +174,7 @@ pub struct Stopped {
 }
 
 impl Error {
-    /// The number in envy_codes.h or envy_file.h.
+    /// The number in envy_codes.h.
     pub fn code(&self) -> u32 {
         match self {
             Error::Range => sys::RANGE,
@@ -173,6 +182,10 @@ impl Error {
             Error::Full => sys::FULL,
             Error::Busy => sys::BUSY,
             Error::Closed => sys::CLOSED,
+            Error::Bad => sys::BAD,
+            Error::Dead => sys::DEAD,
+            Error::Powered => sys::POWERED,
+            Error::OtherBoard => sys::OTHER_BOARD,
             Error::NoMemory => sys::NO_MEMORY,
             Error::FlashSize => sys::FLASH_SIZE,
             Error::SramSize => sys::SRAM_SIZE,
@@ -208,6 +221,10 @@ impl Error {
             sys::FULL => Error::Full,
             sys::BUSY => Error::Busy,
             sys::CLOSED => Error::Closed,
+            sys::BAD => Error::Bad,
+            sys::DEAD => Error::Dead,
+            sys::POWERED => Error::Powered,
+            sys::OTHER_BOARD => Error::OtherBoard,
             sys::NO_MEMORY => Error::NoMemory,
             sys::FLASH_SIZE => Error::FlashSize,
             sys::SRAM_SIZE => Error::SramSize,

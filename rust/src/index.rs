@@ -1,121 +1,28 @@
 //! An ordered map in the array of a memory.
 
+use crate::counts::Did;
 use crate::error::Error;
-use crate::memory::{Did, Memory};
+use crate::memory::Memory;
 use crate::sys;
 pub use crate::sys::Pair;
 use std::ops::{Bound, RangeBounds};
 
-/// What a map asks of its memory.
-pub(crate) mod calls {
-    use crate::error::Error;
-    use crate::memory::Did;
-    use crate::sys;
-
-    /// The calls of a map in a memory of one kind. Each hands its arguments on.
-    pub trait Calls {
-        fn tick(&self) -> Result<Did, Error>;
-        fn sync(&self) -> Result<(), Error>;
-        fn error(&self, code: u32) -> Error;
-        fn create(&self) -> u32;
-        fn get(&self, key: u64, value: &mut u64) -> u32;
-        fn insert(&self, key: u64, value: u64, before: &mut sys::Old) -> u32;
-        fn remove(&self, key: u64, value: &mut u64) -> u32;
-        fn count(&self, count: &mut u64) -> u32;
-        fn next(&self, key: u64, pair: &mut sys::Pair) -> u32;
-        fn above(&self, key: u64, pair: &mut sys::Pair) -> u32;
-        fn last(&self, key: u64, pair: &mut sys::Pair) -> u32;
-        fn scan(&self, key: u64, pairs: &mut [sys::Pair], count: &mut usize) -> u32;
-        fn scan_down(&self, key: u64, pairs: &mut [sys::Pair], count: &mut usize) -> u32;
-    }
-
-    /// Writes the calls of a kind of memory, each of which is open while it is there and whose handle is its own.
-    macro_rules! calls {
-        ($memory:ty: $create:ident $get:ident $insert:ident $remove:ident $count:ident $next:ident $above:ident $last:ident
-            $scan:ident $scan_down:ident) => {
-            impl $crate::index::calls::Calls for $memory {
-                fn tick(&self) -> Result<$crate::Did, $crate::Error> {
-                    <$memory>::tick(self)
-                }
-                fn sync(&self) -> Result<(), $crate::Error> {
-                    <$memory>::sync(self)
-                }
-                fn error(&self, code: u32) -> $crate::Error {
-                    <$memory>::error(self, code, 0)
-                }
-                fn create(&self) -> u32 {
-                    // SAFETY: the memory is open, here and below, and what is written is the caller's.
-                    unsafe { sys::$create(self.handle()) }
-                }
-                fn get(&self, key: u64, value: &mut u64) -> u32 {
-                    unsafe { sys::$get(self.handle(), key, value) }
-                }
-                fn insert(&self, key: u64, value: u64, before: &mut sys::Old) -> u32 {
-                    unsafe { sys::$insert(self.handle(), key, value, before) }
-                }
-                fn remove(&self, key: u64, value: &mut u64) -> u32 {
-                    unsafe { sys::$remove(self.handle(), key, value) }
-                }
-                fn count(&self, count: &mut u64) -> u32 {
-                    unsafe { sys::$count(self.handle(), count) }
-                }
-                fn next(&self, key: u64, pair: &mut sys::Pair) -> u32 {
-                    unsafe { sys::$next(self.handle(), key, pair) }
-                }
-                fn above(&self, key: u64, pair: &mut sys::Pair) -> u32 {
-                    unsafe { sys::$above(self.handle(), key, pair) }
-                }
-                fn last(&self, key: u64, pair: &mut sys::Pair) -> u32 {
-                    unsafe { sys::$last(self.handle(), key, pair) }
-                }
-                fn scan(&self, key: u64, pairs: &mut [sys::Pair], count: &mut usize) -> u32 {
-                    unsafe { sys::$scan(self.handle(), key, pairs.as_mut_ptr(), pairs.len(), count) }
-                }
-                fn scan_down(&self, key: u64, pairs: &mut [sys::Pair], count: &mut usize) -> u32 {
-                    unsafe { sys::$scan_down(self.handle(), key, pairs.as_mut_ptr(), pairs.len(), count) }
-                }
-            }
-        };
-    }
-    pub(crate) use calls;
-}
-
-/// A memory that a map may stand in: a [`Memory`], or a `KeptMemory`.
-pub trait Holder: calls::Calls {}
-
-impl Holder for Memory {}
-
-calls::calls!(Memory: envy_index_create envy_index_get envy_index_insert envy_index_remove envy_index_count
-    envy_index_next envy_index_above envy_index_last envy_index_scan envy_index_scan_down);
-
 /// An ordered map from words to words, which has the array of its memory to itself. Each call is one transaction: a process
-/// that is killed in it leaves the map as before the call, or as the call leaves it. Over a `KeptMemory` the map outlives
+/// that is killed in it leaves the map as before the call, or as the call leaves it. Over a file that is kept the map outlives
 /// the machine as of its last [`sync`](Index::sync).
-pub struct Index<M: Holder = Memory> {
-    memory: M,
+pub struct Index {
+    memory: Memory,
 }
 
-#[cfg(feature = "kept")]
-impl Index<crate::kept::KeptMemory> {
-    /// A sync that leaves in the file no more than what the memory holds takes.
-    ///
-    /// # Errors
-    ///
-    /// `Off`, as of a sync.
-    pub fn compact(&self) -> Result<(), Error> {
-        self.memory.compact()
-    }
-}
-
-impl<M: Holder> Index<M> {
+impl Index {
     /// Makes a map without pairs of a memory, whatever its words are.
     ///
     /// # Errors
     ///
     /// `MapSetup`: a map needs 20 pages and 32 shadows. `SlotOpen`, where a transaction was forgotten and never ended.
-    pub fn create(memory: M) -> Result<Index<M>, Error> {
+    pub fn create(memory: Memory) -> Result<Index, Error> {
         let index = Index { memory };
-        index.check(index.memory.create())?;
+        index.check(index.memory.index_create())?;
         Ok(index)
     }
 
@@ -126,12 +33,12 @@ impl<M: Holder> Index<M> {
     /// The words of the memory are zeros, which are the map without pairs, or those that the last `Index` over it left:
     /// nothing else was stored or committed since. Nothing marks a memory that holds a map, so no call can see that one
     /// doesn't.
-    pub unsafe fn over(memory: M) -> Index<M> {
+    pub unsafe fn over(memory: Memory) -> Index {
         Index { memory }
     }
 
     /// The memory, whose words no longer need to be a map.
-    pub fn into_memory(self) -> M {
+    pub fn into_memory(self) -> Memory {
         self.memory
     }
 
@@ -139,18 +46,27 @@ impl<M: Holder> Index<M> {
     ///
     /// # Errors
     ///
-    /// None that is known.
+    /// `Off`.
     pub fn tick(&self) -> Result<Did, Error> {
         self.memory.tick()
     }
 
-    /// Writes all that was changed through to the disk.
+    /// Brings all that was done to the disk, as [`Memory::sync`].
     ///
     /// # Errors
     ///
-    /// `System`.
+    /// `Off` or `System`.
     pub fn sync(&self) -> Result<(), Error> {
         self.memory.sync()
+    }
+
+    /// A sync that leaves in the file no more than what the memory holds takes, as [`Memory::compact`].
+    ///
+    /// # Errors
+    ///
+    /// `Off`, as of a sync; `Appended`.
+    pub fn compact(&self) -> Result<(), Error> {
+        self.memory.compact()
     }
 
     /// The value of a key.
@@ -160,7 +76,7 @@ impl<M: Holder> Index<M> {
     /// `MapSetup` or `SlotOpen`, as for each call below. `BrokenMap`, as for each that only reads: the words stand for no map.
     pub fn get(&self, key: u64) -> Result<Option<u64>, Error> {
         let mut value = 0;
-        Ok(self.found(self.memory.get(key, &mut value))?.then_some(value))
+        Ok(self.found(self.memory.index_get(key, &mut value))?.then_some(value))
     }
 
     /// Sets the value of a key, and answers the one that it had.
@@ -170,7 +86,7 @@ impl<M: Holder> Index<M> {
     /// `MapFull`: the map doesn't have the key, and has as many pairs as it may have.
     pub fn insert(&self, key: u64, value: u64) -> Result<Option<u64>, Error> {
         let mut before = sys::Old::default();
-        self.check(self.memory.insert(key, value, &mut before))?;
+        self.check(self.memory.index_insert(key, value, &mut before))?;
         Ok((before.had != 0).then_some(before.value))
     }
 
@@ -181,7 +97,7 @@ impl<M: Holder> Index<M> {
     /// As [`get`](Index::get).
     pub fn remove(&self, key: u64) -> Result<Option<u64>, Error> {
         let mut value = 0;
-        Ok(self.found(self.memory.remove(key, &mut value))?.then_some(value))
+        Ok(self.found(self.memory.index_remove(key, &mut value))?.then_some(value))
     }
 
     /// How many pairs the map has.
@@ -191,7 +107,7 @@ impl<M: Holder> Index<M> {
     /// As [`get`](Index::get).
     pub fn count(&self) -> Result<u64, Error> {
         let mut count = 0;
-        self.check(self.memory.count(&mut count))?;
+        self.check(self.memory.index_count(&mut count))?;
         Ok(count)
     }
 
@@ -201,7 +117,7 @@ impl<M: Holder> Index<M> {
     ///
     /// As [`get`](Index::get).
     pub fn next(&self, key: u64) -> Result<Option<(u64, u64)>, Error> {
-        self.nearest(|pair| self.memory.next(key, pair))
+        self.nearest(|pair| self.memory.index_next(key, pair))
     }
 
     /// The pair with the least key above this one.
@@ -210,7 +126,7 @@ impl<M: Holder> Index<M> {
     ///
     /// As [`get`](Index::get).
     pub fn above(&self, key: u64) -> Result<Option<(u64, u64)>, Error> {
-        self.nearest(|pair| self.memory.above(key, pair))
+        self.nearest(|pair| self.memory.index_above(key, pair))
     }
 
     /// The pair with the greatest key that is at most this one.
@@ -219,7 +135,7 @@ impl<M: Holder> Index<M> {
     ///
     /// As [`get`](Index::get).
     pub fn last(&self, key: u64) -> Result<Option<(u64, u64)>, Error> {
-        self.nearest(|pair| self.memory.last(key, pair))
+        self.nearest(|pair| self.memory.index_last(key, pair))
     }
 
     /// Writes the pairs from a key on, by rising key, and answers how many there are: as many as there is room for, or all.
@@ -230,7 +146,7 @@ impl<M: Holder> Index<M> {
     /// As [`get`](Index::get).
     pub fn scan(&self, key: u64, pairs: &mut [Pair]) -> Result<usize, Error> {
         let mut count = 0;
-        self.check(self.memory.scan(key, pairs, &mut count))?;
+        self.check(self.memory.index_scan(key, pairs, &mut count))?;
         Ok(count)
     }
 
@@ -241,13 +157,13 @@ impl<M: Holder> Index<M> {
     /// As [`get`](Index::get).
     pub fn scan_down(&self, key: u64, pairs: &mut [Pair]) -> Result<usize, Error> {
         let mut count = 0;
-        self.check(self.memory.scan_down(key, pairs, &mut count))?;
+        self.check(self.memory.index_scan_down(key, pairs, &mut count))?;
         Ok(count)
     }
 
     /// The pairs whose keys lie in a range, by rising key. A pair is looked for when it is asked for, so what is inserted
     /// or removed meanwhile is seen.
-    pub fn range(&self, keys: impl RangeBounds<u64>) -> Range<'_, M> {
+    pub fn range(&self, keys: impl RangeBounds<u64>) -> Range<'_> {
         let from = match keys.start_bound() {
             Bound::Included(key) => Start::Key(*key),
             Bound::Excluded(key) => Start::Above(*key),
@@ -281,7 +197,7 @@ impl<M: Holder> Index<M> {
     fn check(&self, code: u32) -> Result<(), Error> {
         match code {
             sys::DONE => Ok(()),
-            code => Err(self.memory.error(code)),
+            code => Err(self.memory.error(code, 0)),
         }
     }
 }
@@ -294,13 +210,13 @@ enum Start {
 }
 
 /// The pairs of a range. Behind an error it has none.
-pub struct Range<'i, M: Holder = Memory> {
-    index: &'i Index<M>,
+pub struct Range<'i> {
+    index: &'i Index,
     from: Start,
     to: u64,
 }
 
-impl<M: Holder> Iterator for Range<'_, M> {
+impl Iterator for Range<'_> {
     type Item = Result<(u64, u64), Error>;
 
     fn next(&mut self) -> Option<Self::Item> {

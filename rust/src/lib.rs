@@ -1,45 +1,56 @@
-//! Transactions over a file that is mapped: an array of 64-bit words that a killed process leaves whole.
+//! Transactions over an array of 64-bit words that a killed process, or a machine that stops, leaves whole.
 //!
-//! A [`Memory`] is one file, which it locks. Its words are loaded and stored one by one, or changed together in a
-//! [`Transaction`], which is aborted where it is dropped before its commit. A process that is killed at any moment leaves
-//! every word that was stored and every transaction that was committed, and of others nothing; of the call in which it
-//! died the whole or nothing. That is proved of the library behind this package; that a machine that stops leaves the
-//! file so isn't, since the system writes a mapped file when and in which order it likes: [`Memory::sync`] writes it
-//! through.
+//! A [`Memory`] is an array over what is said when it is opened:
+//!
+//! | [`Memory::open_file`] | a file that outlives the process and the machine: what was there at the last [`Memory::sync`] |
+//! |---|---|
+//! | [`Memory::open_mapped`] | a file that the process maps: it outlives the process as soon as a call has ended |
+//! | [`Memory::format_regions`], [`Memory::open_regions`] | regions of memory of the program's |
+//! | [`Memory::open_simulation`], [`Memory::restore`] | a board in memory whose power and flash can be made to fail, for tests |
+//!
+//! Its words are loaded and stored one by one, or changed together in a [`Transaction`], which is aborted if it is dropped
+//! before its commit. What lasts of each is proved of the library behind this package. That a machine that stops leaves a
+//! mapped file so isn't, since the system writes such a file when and in which order it likes.
 //!
 //! **Isolation** is by page of 32 words. The first put of a transaction to a word makes it the owner of the word's page
 //! until it ends, and until then a store, or a put of another transaction, to any word of that page is [`Error::Held`].
 //! [`Memory::load`] sees what any open transaction put, [`Memory::look`] what is committed, and [`Transaction::view`]
 //! what this transaction put and else what is committed.
 //!
-//! With the feature `kept` a `KeptMemory` is a file whose words outlive the machine, from a sync on.
-//!
 //! An [`Index`] is an ordered map in the array of a memory, each of whose calls is one transaction. [`Maps`] are several in
 //! one array, changed together in one transaction.
 //!
 //! ```no_run
 //! # fn main() -> Result<(), envy::Error> {
-//! let memory = envy::Memory::open("accounts", &envy::Setup::for_words(32 * 101, 16)?)?;
-//! let transfer = memory.begin()?;
-//! transfer.put(32, transfer.view(32)?.wrapping_sub(250))?;
-//! transfer.put(64, transfer.view(64)?.wrapping_add(250))?;
-//! transfer.commit()
+//! let setup = envy::Setup::for_words(32 * 101, 16)?;
+//! let memory = envy::Memory::open_file("accounts", &setup, envy::Open::CREATE)?;
+//! memory.transaction(|transfer| -> Result<(), envy::Error> {
+//!     transfer.put(32, transfer.view(32)?.wrapping_sub(250))?;
+//!     transfer.put(64, transfer.view(64)?.wrapping_add(250))
+//! })?;
+//! memory.sync() // on the disk from here on
 //! # }
 //! ```
 
+mod calls;
+mod counts;
 mod error;
 mod index;
-#[cfg(feature = "kept")]
-mod kept;
 mod maps;
 mod memory;
+mod opening;
+mod regions;
 mod setup;
+mod simulation;
 mod sys;
+mod transaction;
 
+pub use counts::{Counts, Did, Worn};
 pub use error::{Error, Point, Rule, Stopped};
-pub use index::{Holder, Index, Pair, Range};
-#[cfg(feature = "kept")]
-pub use kept::{KeptMemory, KeptTransaction};
-pub use maps::{Changes, Map, Maps, Pairs, Place};
-pub use memory::{Counts, Did, Memory, Transaction, Worn, version};
+pub use index::{Index, Pair, Range};
+pub use maps::{Changes, Map, Maps, Pairs};
+pub use memory::{version, Memory};
+pub use opening::Open;
+pub use regions::{Regions, Sizes};
 pub use setup::{Policy, Setup};
+pub use transaction::Transaction;

@@ -7,91 +7,6 @@ use crate::sys::Pair;
 use std::cell::RefCell;
 use std::ops::{Bound, Range, RangeBounds};
 
-/// What maps ask of their memory.
-pub(crate) mod calls {
-    use crate::error::Error;
-    use crate::sys;
-
-    /// The calls of maps in a memory of one kind. Each hands its arguments on.
-    pub trait Calls {
-        fn error(&self, code: u32, holder: u32) -> Error;
-        fn begin(&self, slot: &mut u32) -> u32;
-        fn put(&self, slot: u32, address: u32, word: u64, holder: &mut u32) -> u32;
-        fn load(&self, address: u32, word: &mut u64) -> u32;
-        fn create(&self, slot: u32, map: &sys::Range) -> u32;
-        fn insert(&self, slot: u32, map: &sys::Range, key: u64, value: u64, before: &mut sys::Old) -> u32;
-        fn remove(&self, slot: u32, map: &sys::Range, key: u64, value: &mut u64) -> u32;
-        fn commit(&self, slot: u32) -> u32;
-        fn abort(&self, slot: u32) -> u32;
-        fn get(&self, map: &sys::Range, key: u64, value: &mut u64) -> u32;
-        fn count(&self, map: &sys::Range, count: &mut u64) -> u32;
-        fn check(&self, map: &sys::Range, rule: &mut u32) -> u32;
-        fn scan(&self, map: &sys::Range, key: u64, pairs: &mut [sys::Pair], count: &mut usize) -> u32;
-        fn scan_down(&self, map: &sys::Range, key: u64, pairs: &mut [sys::Pair], count: &mut usize) -> u32;
-    }
-
-    /// Writes the calls of a kind of memory, each of which is open while it is there and whose handle is its own.
-    macro_rules! map_calls {
-        ($memory:ty: $put:ident $load:ident $begin:ident $create:ident $insert:ident $remove:ident $commit:ident
-            $abort:ident $get:ident $count:ident $check:ident $scan:ident $scan_down:ident) => {
-            impl $crate::maps::calls::Calls for $memory {
-                fn error(&self, code: u32, holder: u32) -> $crate::Error {
-                    <$memory>::error(self, code, holder)
-                }
-                fn begin(&self, slot: &mut u32) -> u32 {
-                    // SAFETY: the memory is open, here and below, and what is written is the caller's.
-                    unsafe { sys::$begin(self.handle(), slot) }
-                }
-                fn put(&self, slot: u32, address: u32, word: u64, holder: &mut u32) -> u32 {
-                    unsafe { sys::$put(self.handle(), slot, address, word, holder) }
-                }
-                fn load(&self, address: u32, word: &mut u64) -> u32 {
-                    unsafe { sys::$load(self.handle(), address, word) }
-                }
-                fn create(&self, slot: u32, map: &sys::Range) -> u32 {
-                    unsafe { sys::$create(self.handle(), slot, map) }
-                }
-                fn insert(&self, slot: u32, map: &sys::Range, key: u64, value: u64, before: &mut sys::Old) -> u32 {
-                    unsafe { sys::$insert(self.handle(), slot, map, key, value, before) }
-                }
-                fn remove(&self, slot: u32, map: &sys::Range, key: u64, value: &mut u64) -> u32 {
-                    unsafe { sys::$remove(self.handle(), slot, map, key, value) }
-                }
-                fn commit(&self, slot: u32) -> u32 {
-                    unsafe { sys::$commit(self.handle(), slot) }
-                }
-                fn abort(&self, slot: u32) -> u32 {
-                    unsafe { sys::$abort(self.handle(), slot) }
-                }
-                fn get(&self, map: &sys::Range, key: u64, value: &mut u64) -> u32 {
-                    unsafe { sys::$get(self.handle(), map, key, value) }
-                }
-                fn count(&self, map: &sys::Range, count: &mut u64) -> u32 {
-                    unsafe { sys::$count(self.handle(), map, count) }
-                }
-                fn check(&self, map: &sys::Range, rule: &mut u32) -> u32 {
-                    unsafe { sys::$check(self.handle(), map, rule) }
-                }
-                fn scan(&self, map: &sys::Range, key: u64, pairs: &mut [sys::Pair], count: &mut usize) -> u32 {
-                    unsafe { sys::$scan(self.handle(), map, key, pairs.as_mut_ptr(), pairs.len(), count) }
-                }
-                fn scan_down(&self, map: &sys::Range, key: u64, pairs: &mut [sys::Pair], count: &mut usize) -> u32 {
-                    unsafe { sys::$scan_down(self.handle(), map, key, pairs.as_mut_ptr(), pairs.len(), count) }
-                }
-            }
-        };
-    }
-    pub(crate) use map_calls;
-}
-
-/// A memory in which maps may stand: a [`Memory`], or a `KeptMemory`.
-pub trait Place: calls::Calls {}
-
-impl Place for Memory {}
-
-calls::map_calls!(Memory: envy_mapped_put envy_mapped_load envy_map_begin envy_map_create envy_map_insert envy_map_remove
-    envy_map_commit envy_map_abort envy_map_get envy_map_count envy_map_check envy_map_scan envy_map_scan_down);
-
 /// How many pairs an iterator reads at once.
 const PART: usize = 64;
 
@@ -100,21 +15,21 @@ const PART: usize = 64;
 pub struct Map(usize);
 
 /// A memory whose array holds ordered maps from words to words, each in a range of its own, beside plain words. They are
-/// changed in transactions, each of several maps and words: a process that is killed keeps all of one or none. Over a
-/// `KeptMemory` one that was committed outlives the machine from the next sync on.
-pub struct Maps<M: Place = Memory> {
-    memory: M,
+/// changed in transactions, each of several maps and words: a process that is killed keeps all of one or none. Over a file that
+/// is kept one that was committed outlives the machine from the next sync on.
+pub struct Maps {
+    memory: Memory,
     ranges: RefCell<Vec<sys::Range>>,
 }
 
-impl<M: Place> Maps<M> {
+impl Maps {
     /// A memory of which no map is known yet.
-    pub fn over(memory: M) -> Maps<M> {
+    pub fn over(memory: Memory) -> Maps {
         Maps { memory, ranges: RefCell::new(Vec::new()) }
     }
 
     /// The memory, whose words no longer need to be maps.
-    pub fn into_memory(self) -> M {
+    pub fn into_memory(self) -> Memory {
         self.memory
     }
 
@@ -123,7 +38,7 @@ impl<M: Place> Maps<M> {
     /// # Safety
     ///
     /// Nothing that is done with it changes a word of a map's range.
-    pub unsafe fn memory(&self) -> &M {
+    pub unsafe fn memory(&self) -> &Memory {
         &self.memory
     }
 
@@ -135,7 +50,7 @@ impl<M: Place> Maps<M> {
     /// `Range`: no map may lie there, or another map lies there. `SlotOpen`. `Full`: the setup has no shadows.
     pub fn create(&self, words: Range<u32>) -> Result<Map, Error> {
         let range = self.apart(words)?;
-        self.transaction(|t| t.check(self.memory.create(t.slot, &range)))?;
+        self.transaction(|t| t.check(self.memory.map_create(t.slot, &range)))?;
         Ok(self.added(range))
     }
 
@@ -147,7 +62,7 @@ impl<M: Place> Maps<M> {
     pub fn find(&self, words: Range<u32>) -> Result<Map, Error> {
         let range = self.apart(words)?;
         let mut rule = 0;
-        self.check(self.memory.check(&range, &mut rule))?;
+        self.check(self.memory.map_check(&range, &mut rule))?;
         Ok(self.added(range))
     }
 
@@ -171,13 +86,13 @@ impl<M: Place> Maps<M> {
     /// # Errors
     ///
     /// That of the closure; `SlotOpen`: a transaction is open.
-    pub fn transaction<T>(&self, work: impl FnOnce(&Changes<'_, M>) -> Result<T, Error>) -> Result<T, Error> {
+    pub fn transaction<T>(&self, work: impl FnOnce(&Changes<'_>) -> Result<T, Error>) -> Result<T, Error> {
         let mut slot = 0;
-        self.check(self.memory.begin(&mut slot))?;
+        self.check(self.memory.map_begin(&mut slot))?;
         let changes = Changes { maps: self, slot };
         let done = work(&changes)?;
         std::mem::forget(changes);
-        self.check(self.memory.commit(slot))?;
+        self.check(self.memory.map_commit(slot))?;
         Ok(done)
     }
 
@@ -188,7 +103,7 @@ impl<M: Place> Maps<M> {
     /// `BrokenMap`: the words of the range stand for no map. `SlotOpen`: another slot is open than that of a transaction.
     pub fn get(&self, map: Map, key: u64) -> Result<Option<u64>, Error> {
         let mut value = 0;
-        Ok(self.found(self.memory.get(&self.range_of(map), key, &mut value))?.then_some(value))
+        Ok(self.found(self.memory.map_get(&self.range_of(map), key, &mut value))?.then_some(value))
     }
 
     /// How many pairs a map has.
@@ -198,7 +113,7 @@ impl<M: Place> Maps<M> {
     /// As [`get`](Maps::get).
     pub fn len(&self, map: Map) -> Result<u64, Error> {
         let mut count = 0;
-        self.check(self.memory.count(&self.range_of(map), &mut count))?;
+        self.check(self.memory.map_count(&self.range_of(map), &mut count))?;
         Ok(count)
     }
 
@@ -217,13 +132,11 @@ impl<M: Place> Maps<M> {
     ///
     /// `Range`.
     pub fn load(&self, address: u32) -> Result<u64, Error> {
-        let mut word = 0;
-        self.check(self.memory.load(address, &mut word))?;
-        Ok(word)
+        self.memory.load(address)
     }
 
     /// The pairs of a map whose keys lie in a range, from either end. Up to 64 are read at once.
-    pub fn range(&self, map: Map, keys: impl RangeBounds<u64>) -> Pairs<'_, M> {
+    pub fn range(&self, map: Map, keys: impl RangeBounds<u64>) -> Pairs<'_> {
         let low = match keys.start_bound() {
             Bound::Included(key) => Some(*key),
             Bound::Excluded(key) => key.checked_add(1),
@@ -280,12 +193,12 @@ fn touch(range: sys::Range, first: u32, words: u32) -> bool {
 }
 
 /// An open transaction of maps. It is aborted if it is dropped before it is committed.
-pub struct Changes<'m, M: Place = Memory> {
-    maps: &'m Maps<M>,
+pub struct Changes<'m> {
+    maps: &'m Maps,
     slot: u32,
 }
 
-impl<M: Place> Changes<'_, M> {
+impl Changes<'_> {
     /// Sets the value of a key, and answers the one that it had.
     ///
     /// # Errors
@@ -295,7 +208,7 @@ impl<M: Place> Changes<'_, M> {
     pub fn insert(&self, map: Map, key: u64, value: u64) -> Result<Option<u64>, Error> {
         let mut before = sys::Old::default();
         let range = self.maps.range_of(map);
-        self.check(self.maps.memory.insert(self.slot, &range, key, value, &mut before))?;
+        self.check(self.maps.memory.map_insert(self.slot, &range, key, value, &mut before))?;
         Ok((before.had != 0).then_some(before.value))
     }
 
@@ -307,7 +220,7 @@ impl<M: Place> Changes<'_, M> {
     pub fn remove(&self, map: Map, key: u64) -> Result<Option<u64>, Error> {
         let mut value = 0;
         let range = self.maps.range_of(map);
-        Ok(self.maps.found(self.maps.memory.remove(self.slot, &range, key, &mut value))?.then_some(value))
+        Ok(self.maps.found(self.maps.memory.map_remove(self.slot, &range, key, &mut value))?.then_some(value))
     }
 
     /// Makes the word at an address outside the maps this.
@@ -319,11 +232,7 @@ impl<M: Place> Changes<'_, M> {
         if self.maps.ranges.borrow().iter().any(|range| touch(*range, address, 1)) {
             return Err(Error::Range);
         }
-        let mut holder = 0;
-        match self.maps.memory.put(self.slot, address, word, &mut holder) {
-            sys::DONE => Ok(()),
-            code => Err(self.maps.memory.error(code, holder)),
-        }
+        self.maps.memory.put(self.slot, address, word)
     }
 
     fn check(&self, code: u32) -> Result<(), Error> {
@@ -331,16 +240,16 @@ impl<M: Place> Changes<'_, M> {
     }
 }
 
-impl<M: Place> Drop for Changes<'_, M> {
+impl Drop for Changes<'_> {
     fn drop(&mut self) {
         // (after `BadAborted` the slot is closed already)
-        self.maps.memory.abort(self.slot);
+        self.maps.memory.map_abort(self.slot);
     }
 }
 
 /// The pairs of a range of keys. After an error it has none.
-pub struct Pairs<'m, M: Place = Memory> {
-    maps: &'m Maps<M>,
+pub struct Pairs<'m> {
+    maps: &'m Maps,
     map: sys::Range,
     /// The least and the greatest key that may be left to read.
     left: Option<(u64, u64)>,
@@ -349,15 +258,15 @@ pub struct Pairs<'m, M: Place = Memory> {
     back: Vec<Pair>,
 }
 
-impl<M: Place> Pairs<'_, M> {
+impl Pairs<'_> {
     /// Reads pairs from one end of those that are left.
     fn read(&mut self, down: bool) -> Result<(), Error> {
         let Some((low, high)) = self.left.take() else { return Ok(()) };
         let (mut pairs, mut count) = ([Pair::default(); PART], 0);
         let memory = &self.maps.memory;
         self.maps.check(match down {
-            false => memory.scan(&self.map, low, &mut pairs, &mut count),
-            true => memory.scan_down(&self.map, high, &mut pairs, &mut count),
+            false => memory.map_scan(&self.map, low, &mut pairs, &mut count),
+            true => memory.map_scan_down(&self.map, high, &mut pairs, &mut count),
         })?;
         let found = pairs[..count].iter().filter(|pair| (low..=high).contains(&pair.key)).rev();
         if count == PART {
@@ -391,7 +300,7 @@ impl<M: Place> Pairs<'_, M> {
     }
 }
 
-impl<M: Place> Iterator for Pairs<'_, M> {
+impl Iterator for Pairs<'_> {
     type Item = Result<(u64, u64), Error>;
 
     fn next(&mut self) -> Option<Self::Item> {
@@ -399,7 +308,7 @@ impl<M: Place> Iterator for Pairs<'_, M> {
     }
 }
 
-impl<M: Place> DoubleEndedIterator for Pairs<'_, M> {
+impl DoubleEndedIterator for Pairs<'_> {
     fn next_back(&mut self) -> Option<Self::Item> {
         self.step(true)
     }

@@ -1,76 +1,34 @@
-//! A memory in a file, and its transactions.
+//! A memory, and its words.
 
+use crate::counts::{counts_of, did_of, Counts, Did, Worn};
 use crate::error::{Error, Stopped};
-use crate::setup::{c_path, Setup};
+use crate::regions::Regions;
 use crate::sys;
+use crate::transaction::Transaction;
 use std::cell::UnsafeCell;
-use std::ffi::CStr;
-use std::mem::ManuallyDrop;
-use std::path::Path;
-use std::ptr;
+use std::ffi::{c_void, CStr};
 use std::sync::Mutex;
+use std::{io, mem, ptr};
 
-/// How many segments in reserve are retired, and how many are left: together those of the setup.
-#[derive(Clone, Copy, Debug, Default, PartialEq, Eq)]
-pub struct Worn {
-    pub retired: u32,
-    pub left: u32,
-}
-
-/// What a memory has done since it was opened. Each counter stops at `u64::MAX`.
-#[derive(Clone, Copy, Debug, Default, PartialEq, Eq)]
-pub struct Counts {
-    pub hits: u64,
-    pub misses: u64,
-    pub flushes: u64,
-    pub copies: u64,
-    pub moves: u64,
-    pub erases: u64,
-    pub swaps: u64,
-}
-
-/// What a background step did.
-#[derive(Clone, Copy, Debug, PartialEq, Eq)]
-pub enum Did {
-    Idle,
-    Flushed,
-    Began,
-    Moved,
-    Copied,
-    Switched,
-    Placed,
-    Erased,
-}
-
-pub(crate) fn did_of(number: u32) -> Did {
-    match number {
-        1 => Did::Flushed,
-        2 => Did::Began,
-        3 => Did::Moved,
-        4 => Did::Copied,
-        5 => Did::Switched,
-        6 => Did::Placed,
-        7 => Did::Erased,
-        _ => Did::Idle,
-    }
-}
-
-pub(crate) fn counts_of(found: sys::Counts) -> Counts {
-    Counts {
-        hits: found.hits,
-        misses: found.misses,
-        flushes: found.flushes,
-        copies: found.copies,
-        moves: found.moves,
-        erases: found.erases,
-        swaps: found.swaps,
-    }
-}
-
-/// A memory in a file, which is locked while it is open, and written through to the disk where this is dropped. One thread
-/// at a time may use it; another may take it over.
+/// A memory: an array of words over a file, over a file that the process maps, over regions of memory, or over a board whose
+/// power and flash can be made to fail. What it stands over is said when it is opened, and the calls are the same then. A file
+/// is locked while it is open. If this is dropped, the memory is ended as by [`close`](Memory::close).
+///
+/// One thread at a time may use it, and another may take it over: it is `Send`, and not `Sync`. Threads share one in a `Mutex`.
 pub struct Memory {
-    file: UnsafeCell<sys::File>,
+    // Every call goes through a pointer to it. It is this memory's alone, no call calls back, and `Memory` isn't `Sync`, so no
+    // two calls use it at once.
+    handle: UnsafeCell<sys::Handle>,
+    // what it was opened over, which stays borrowed for as long as the memory is open
+    pub(crate) over: Over,
+}
+
+/// What a memory stands over.
+pub(crate) enum Over {
+    File,
+    Mapped,
+    Regions(Regions),
+    Simulation,
 }
 
 // SAFETY: a handle may be used from any thread, by one call at a time; without `Sync` no two threads call at once.
@@ -86,49 +44,62 @@ pub fn version() -> &'static str {
 }
 
 impl Memory {
-    /// Opens the file at a path, or makes one of zeros where there is none.
-    ///
-    /// # Errors
-    ///
-    /// `Locked`; `System`; `Setup` or `Policy`; what was found of the file; `NoMemory`. The file is as before.
-    pub fn open(path: impl AsRef<Path>, setup: &Setup) -> Result<Memory, Error> {
-        let path = c_path(path.as_ref())?;
-        let place = PLACES.lock().ok().and_then(|mut it| it.pop());
-        let memory = Memory {
-            file: UnsafeCell::new(sys::File {
-                memory: sys::Handle { at: place.unwrap_or(0) as *mut _ },
-                at: ptr::null_mut(),
-                bytes: 0,
-                descriptor: -1,
-                process: 0,
-            }),
-        };
-        // SAFETY: the pointers are to this memory's file, and to a string and a setup of this call's.
-        Error::check(unsafe { sys::envy_file_open(memory.file.get(), path.as_ptr(), &setup.numbers()) })?;
-        Ok(memory)
+    /// A handle whose place holds no memory yet. If there is no place, that over which it was to stand comes back.
+    pub(crate) fn empty(over: Over) -> Result<Memory, (Error, Over)> {
+        let at = PLACES.lock().ok().and_then(|mut it| it.pop()).unwrap_or(0) as *mut c_void;
+        let memory = Memory { handle: UnsafeCell::new(sys::Handle { at, file: ptr::null_mut() }), over };
+        // SAFETY: the handle is this memory's, and has no place.
+        match if at.is_null() { unsafe { sys::envy_new(memory.handle()) } } else { sys::DONE } {
+            sys::DONE => Ok(memory),
+            code => Err((Error::of(code, 0), memory.into_over())),
+        }
     }
 
-    // The error of a number other than that of a call that was done.
-    pub(crate) fn error(&self, code: u32, holder: u32) -> Error {
-        Error::of(code, holder)
+    /// Ends the memory, and hands back what it stood over.
+    pub(crate) fn into_over(mut self) -> Over {
+        // SAFETY: the handle is there; an empty place stays as it is.
+        unsafe { sys::envy_close(self.handle()) };
+        mem::replace(&mut self.over, Over::Mapped)
     }
 
-    // Every call goes through this pointer. The file is this memory's alone, no call calls back, and `Memory` isn't
-    // `Sync`, so no two calls use it at once.
     pub(crate) fn handle(&self) -> *mut sys::Handle {
-        // SAFETY: the pointer is to a file that is there.
-        unsafe { ptr::addr_of_mut!((*self.file.get()).memory) }
+        self.handle.get()
     }
 
-    /// The word at an address, also where an open transaction put it.
+    /// The error of a number other than that of a call that was done. A file tells why it failed.
+    pub(crate) fn error(&self, code: u32, holder: u32) -> Error {
+        if code != sys::OFF {
+            return Error::of(code, holder);
+        }
+        // SAFETY: the handle is there.
+        let why = unsafe { sys::envy_file_error(self.handle()) };
+        Error::Off(match (why, &self.over) {
+            (0, Over::Simulation) => io::Error::other("power failed"),
+            (0, _) => io::Error::other("the file is at the end of its range"),
+            (why, _) => io::Error::from_raw_os_error(why),
+        })
+    }
+
+    pub(crate) fn check(&self, code: u32) -> Result<(), Error> {
+        self.check_held(code, 0)
+    }
+
+    pub(crate) fn check_held(&self, code: u32, holder: u32) -> Result<(), Error> {
+        match code {
+            sys::DONE => Ok(()),
+            code => Err(self.error(code, holder)),
+        }
+    }
+
+    /// The word at an address, also if an open transaction put it.
     ///
     /// # Errors
     ///
-    /// `Range`.
+    /// `Range` or `Off`.
     pub fn load(&self, address: u32) -> Result<u64, Error> {
         let mut word = 0;
         // SAFETY: the memory is open, and the word is this call's.
-        Error::check(unsafe { sys::envy_mapped_load(self.handle(), address, &mut word) })?;
+        self.check(unsafe { sys::envy_load(self.handle(), address, &mut word) })?;
         Ok(word)
     }
 
@@ -136,11 +107,11 @@ impl Memory {
     ///
     /// # Errors
     ///
-    /// `Range`.
+    /// `Range` or `Off`.
     pub fn look(&self, address: u32) -> Result<u64, Error> {
         let mut word = 0;
         // SAFETY: the memory is open, and the word is this call's.
-        Error::check(unsafe { sys::envy_mapped_look(self.handle(), address, &mut word) })?;
+        self.check(unsafe { sys::envy_look(self.handle(), address, &mut word) })?;
         Ok(word)
     }
 
@@ -149,24 +120,23 @@ impl Memory {
     ///
     /// # Errors
     ///
-    /// `Range`, where one of them lies past the last page: none is read.
+    /// `Off`, or `Range`: one of them lies past the last page, and none is read.
     pub fn read(&self, address: u32, words: &mut [u64]) -> Result<(), Error> {
         // SAFETY: the memory is open, and the slice has so many words.
-        Error::check(unsafe { sys::envy_mapped_read(self.handle(), address, words.as_mut_ptr(), words.len()) })
+        self.check(unsafe { sys::envy_read(self.handle(), address, words.as_mut_ptr(), words.len()) })
     }
 
-    /// Makes the word at an address this. From then on it outlives the process.
+    /// Makes the word at an address this. Of a mapped file and of regions it outlives the process from then on; of a file that
+    /// is kept a later [`sync`](Memory::sync) brings it to the disk.
     ///
     /// # Errors
     ///
-    /// `Range` or `Held`.
+    /// `Range`, `Held` or `Off`; `Bad` of a board that can be made to fail.
     pub fn store(&self, address: u32, word: u64) -> Result<(), Error> {
         let mut holder = 0;
         // SAFETY: the memory is open, and the holder is this call's.
-        match unsafe { sys::envy_mapped_store(self.handle(), address, word, &mut holder) } {
-            sys::DONE => Ok(()),
-            code => Err(Error::of(code, holder)),
-        }
+        let code = unsafe { sys::envy_store(self.handle(), address, word, &mut holder) };
+        self.check_held(code, holder)
     }
 
     /// Stores word after word from an address on. The first that is refused ends it; those before it stay stored. It
@@ -179,33 +149,51 @@ impl Memory {
         let (mut done, mut holder) = (0, 0);
         let m = self.handle();
         // SAFETY: the memory is open, the slice has so many words, and the two numbers are this call's.
-        match unsafe { sys::envy_mapped_store_run(m, address, words.as_ptr(), words.len(), &mut done, &mut holder) } {
-            sys::DONE => Ok(()),
-            code => Err(Stopped { done, error: Error::of(code, holder) }),
-        }
+        let code = unsafe { sys::envy_store_run(m, address, words.as_ptr(), words.len(), &mut done, &mut holder) };
+        self.check_held(code, holder).map_err(|error| Stopped { done, error })
+    }
+
+    /// Puts a word in the transaction of a slot.
+    pub(crate) fn put(&self, slot: u32, address: u32, word: u64) -> Result<(), Error> {
+        let mut holder = 0;
+        // SAFETY: the memory is open, and the holder is this call's.
+        let code = unsafe { sys::envy_put(self.handle(), slot, address, word, &mut holder) };
+        self.check_held(code, holder)
     }
 
     /// Begins a transaction. Up to 64 may be open.
     ///
     /// # Errors
     ///
-    /// `Busy`.
+    /// `Busy` or `Off`.
     pub fn begin(&self) -> Result<Transaction<'_>, Error> {
         let mut slot = 0;
         // SAFETY: the memory is open, and the slot is this call's.
-        Error::check(unsafe { sys::envy_mapped_begin(self.handle(), &mut slot) })?;
+        self.check(unsafe { sys::envy_begin(self.handle(), &mut slot) })?;
         Ok(Transaction { memory: self, slot })
+    }
+
+    /// Runs a transaction: commits it if the closure is `Ok`, and aborts it else, also if the closure panics.
+    ///
+    /// # Errors
+    ///
+    /// That of the closure; `Busy` or `Off`.
+    pub fn transaction<T, E: From<Error>>(&self, work: impl FnOnce(&Transaction<'_>) -> Result<T, E>) -> Result<T, E> {
+        let transaction = self.begin()?;
+        let done = work(&transaction)?;
+        transaction.commit()?;
+        Ok(done)
     }
 
     /// Does one step of work in the background.
     ///
     /// # Errors
     ///
-    /// None that is known.
+    /// `Off`; `Bad` of a board that can be made to fail.
     pub fn tick(&self) -> Result<Did, Error> {
         let mut did = 0;
         // SAFETY: the memory is open, and the number is this call's.
-        Error::check(unsafe { sys::envy_mapped_tick(self.handle(), &mut did) })?;
+        self.check(unsafe { sys::envy_tick(self.handle(), &mut did) })?;
         Ok(did_of(did))
     }
 
@@ -213,126 +201,68 @@ impl Memory {
     pub fn counts(&self) -> Counts {
         let mut found = sys::Counts::default();
         // SAFETY: the memory is open, and the counts are this call's. Of an open memory it is always done.
-        unsafe { sys::envy_mapped_counts(self.handle(), &mut found) };
+        unsafe { sys::envy_counters(self.handle(), &mut found) };
         counts_of(found)
     }
 
-    /// The segments in reserve: those that were retired, since an erase failed, and those that are left.
+    /// The segments in reserve: those that were retired, since an erase failed, and those that are left. Without power both
+    /// are 0.
     pub fn worn(&self) -> Worn {
         let mut worn = Worn::default();
-        // SAFETY: the memory is open, and the numbers are this call's. Of an open memory it is always done.
-        unsafe { sys::envy_mapped_worn(self.handle(), &mut worn.retired, &mut worn.left) };
+        // SAFETY: the memory is open, and the numbers are this call's.
+        unsafe { sys::envy_worn(self.handle(), &mut worn.retired, &mut worn.left) };
         worn
     }
 
-    /// Writes all that was changed through to the disk.
+    /// Brings all that was done to the disk. Over regions and a board that can be made to fail nothing is to be brought.
     ///
     /// # Errors
     ///
-    /// `System`.
+    /// `Off`: a file that is kept opens as of this sync or of the last one that was done. `System`, of a mapped file.
     pub fn sync(&self) -> Result<(), Error> {
         // SAFETY: the memory is open.
-        Error::check(unsafe { sys::envy_file_sync(self.file.get()) })
+        self.check(unsafe { sys::envy_sync(self.handle()) })
     }
 
-    /// Ends the memory and writes it through to the disk, as dropping it does, and tells whether that was done.
+    /// A sync that leaves in a file that is kept no more than what the memory holds takes. A sync does so by itself if the file
+    /// has grown long. Over another board it is a sync.
     ///
     /// # Errors
     ///
-    /// `System`.
+    /// `Off`, as of a sync; `Appended` if it was done as a sync, and no second file could be written.
+    pub fn compact(&self) -> Result<(), Error> {
+        // SAFETY: the memory is open.
+        self.check(unsafe { sys::envy_compact(self.handle()) })
+    }
+
+    /// Syncs a file and ends the memory, as dropping it does, and tells whether the sync was done.
+    ///
+    /// # Errors
+    ///
+    /// `Off` or `System`.
     pub fn close(self) -> Result<(), Error> {
-        // SAFETY: the memory is open. What is dropped behind this is a place without a file.
-        Error::check(unsafe { sys::envy_file_close(self.file.get()) })
+        // SAFETY: the memory is open. What is dropped after this is a handle of an empty place.
+        Error::check(unsafe { sys::envy_close(self.handle()) })
+    }
+
+    /// Ends the memory without a sync: a file that is kept opens as of the last one.
+    ///
+    /// # Errors
+    ///
+    /// `System`, of a mapped file, which is written through.
+    pub fn leave(self) -> Result<(), Error> {
+        // SAFETY: as of `close`.
+        Error::check(unsafe { sys::envy_leave(self.handle()) })
     }
 }
 
 impl Drop for Memory {
     fn drop(&mut self) {
-        // SAFETY: no transaction borrows the memory. A place without a file stays as it is.
-        unsafe { sys::envy_file_close(self.file.get()) };
-        let place = self.file.get_mut().memory.at as usize;
+        // SAFETY: no transaction borrows the memory. An empty place stays as it is.
+        unsafe { sys::envy_close(self.handle()) };
+        let place = self.handle.get_mut().at as usize;
         if let (true, Ok(mut places)) = (place != 0, PLACES.lock()) {
             places.push(place);
         }
-    }
-}
-
-/// A transaction that is open. Dropped before [`commit`](Transaction::commit), it is aborted.
-pub struct Transaction<'m> {
-    memory: &'m Memory,
-    slot: u32,
-}
-
-impl Transaction<'_> {
-    /// The slot, which [`Error::Held`] tells others.
-    pub fn slot(&self) -> u32 {
-        self.slot
-    }
-
-    /// The word at an address: what this transaction put, and else what is committed.
-    ///
-    /// # Errors
-    ///
-    /// `Range`.
-    pub fn view(&self, address: u32) -> Result<u64, Error> {
-        let mut word = 0;
-        // SAFETY: the memory is open, and the word is this call's.
-        Error::check(unsafe { sys::envy_mapped_view(self.memory.handle(), self.slot, address, &mut word) })?;
-        Ok(word)
-    }
-
-    /// Makes the word at an address this.
-    ///
-    /// # Errors
-    ///
-    /// `Range`, `Full` or `Held`. No word changes.
-    pub fn put(&self, address: u32, word: u64) -> Result<(), Error> {
-        let mut holder = 0;
-        // SAFETY: the memory is open, and the holder is this call's.
-        match unsafe { sys::envy_mapped_put(self.memory.handle(), self.slot, address, word, &mut holder) } {
-            sys::DONE => Ok(()),
-            code => Err(Error::of(code, holder)),
-        }
-    }
-
-    /// Puts word after word from an address on. Words that meet more pages without an owner than may yet be owned are
-    /// refused before the first. Else the first that is refused ends it; those before it stay put. It counts one access
-    /// for each page that it puts to.
-    ///
-    /// # Errors
-    ///
-    /// As [`put`](Transaction::put), and how many were put.
-    pub fn write(&self, address: u32, words: &[u64]) -> Result<(), Stopped> {
-        let (mut done, mut holder) = (0, 0);
-        let m = self.memory.handle();
-        // SAFETY: the memory is open, the slice has so many words, and the two numbers are this call's.
-        let code = unsafe {
-            sys::envy_mapped_write(m, self.slot, address, words.as_ptr(), words.len(), &mut done, &mut holder)
-        };
-        match code {
-            sys::DONE => Ok(()),
-            code => Err(Stopped { done, error: Error::of(code, holder) }),
-        }
-    }
-
-    /// Keeps all that was put. From then on it outlives the process.
-    ///
-    /// # Errors
-    ///
-    /// None that is known.
-    pub fn commit(self) -> Result<(), Error> {
-        let this = ManuallyDrop::new(self);
-        // SAFETY: the memory is open.
-        Error::check(unsafe { sys::envy_mapped_commit(this.memory.handle(), this.slot) })
-    }
-
-    /// Takes back all that was put, as dropping it does.
-    pub fn abort(self) {}
-}
-
-impl Drop for Transaction<'_> {
-    fn drop(&mut self) {
-        // SAFETY: the memory is open. The slot is open, so it is done.
-        unsafe { sys::envy_mapped_abort(self.memory.handle(), self.slot) };
     }
 }

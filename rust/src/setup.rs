@@ -48,11 +48,12 @@ impl Setup {
         Ok(Setup::of(&found))
     }
 
-    /// The setup that a file was formatted with. Policy, limit and mark aren't kept: they are greedy, 100 and all frames.
+    /// The setup that a file of either kind was made with. Policy, limit and mark aren't stored: they are greedy, 100 and all
+    /// frames.
     ///
     /// # Errors
     ///
-    /// `Unformatted`, `Older` or `System`.
+    /// `NoJournal`: it holds no memory; `Older`, `OtherJournal` or `System`.
     pub fn of_file(path: impl AsRef<Path>) -> Result<Setup, Error> {
         let path = c_path(path.as_ref())?;
         let mut found = sys::Setup::default();
@@ -66,7 +67,7 @@ impl Setup {
         32 * u64::from(self.pages)
     }
 
-    fn of(found: &sys::Setup) -> Setup {
+    pub(crate) fn of(found: &sys::Setup) -> Setup {
         Setup {
             segments: found.segments,
             rows: found.rows,

@@ -1,5 +1,4 @@
-//! The calls of envy_mapped.h, envy_index.h, envy_map.h, envy_file.h, envy_setup.h, envy_text.h, envy_kept_file.h,
-//! envy_kept_index.h and envy_kept_map.h, and what crosses by them.
+//! The calls of envy.h, envy_setup.h and envy_text.h, and what crosses by them.
 
 use std::ffi::{c_char, c_int, c_void};
 
@@ -56,40 +55,34 @@ pub struct Range {
     pub words: u32,
 }
 
-/// A place for a memory.
+/// A place for a memory, and what is known of its file.
 #[repr(C)]
 pub struct Handle {
     pub at: *mut c_void,
+    pub file: *mut c_void,
 }
 
-/// A place for a file.
+/// A region of words.
 #[repr(C)]
-pub struct File {
-    pub memory: Handle,
-    pub at: *mut c_void,
-    pub bytes: usize,
-    pub descriptor: c_int,
-    pub process: c_int,
+pub struct Words {
+    pub at: *mut u64,
+    pub len: usize,
 }
 
-/// A place for a file that is kept.
-#[cfg(feature = "kept")]
+/// A region of rows of 32 words.
 #[repr(C)]
-pub struct KeptFile {
-    pub memory: Handle,
-    /// What serves the file: a context and six functions of C's.
-    pub disk: [*mut c_void; 7],
-    pub port: i32,
-    pub descriptor: c_int,
-    pub second: c_int,
-    pub second_at: u64,
-    pub path: *mut c_char,
-    pub beside: *mut c_char,
-    pub process: c_int,
-    pub why: c_int,
-    pub found: *const u8,
-    pub found_n: usize,
-    pub reading: c_int,
+pub struct Rows {
+    pub at: *mut [u64; 32],
+    pub len: usize,
+}
+
+/// The sizes of the regions that a setup asks for.
+#[repr(C)]
+#[derive(Default)]
+pub struct Sizes {
+    pub rows: u64,
+    pub words: u64,
+    pub erases: u64,
 }
 
 pub const DONE: u32 = 0;
@@ -99,7 +92,10 @@ pub const HELD: u32 = 4;
 pub const FULL: u32 = 5;
 pub const BUSY: u32 = 6;
 pub const CLOSED: u32 = 7;
+pub const BAD: u32 = 8;
 pub const NO_MEMORY: u32 = 9;
+pub const DEAD: u32 = 12;
+pub const POWERED: u32 = 13;
 pub const FLASH_SIZE: u32 = 14;
 pub const SRAM_SIZE: u32 = 15;
 pub const ERASES_SIZE: u32 = 16;
@@ -122,23 +118,49 @@ pub const NO_JOURNAL: u32 = 72;
 pub const OTHER_JOURNAL: u32 = 73;
 pub const DAMAGED: u32 = 74;
 pub const APPENDED: u32 = 75;
+pub const OTHER_BOARD: u32 = 76;
 pub const SYSTEM: u32 = 1000;
 pub const LOCKED: u32 = 1001;
 pub const TOO_MANY: u32 = 1002;
+
+pub const CREATE: u32 = 1;
+pub const BYTEWISE: u32 = 2;
+pub const READING: u32 = 4;
+pub const COMPACT: u32 = 8;
+pub const READ_SIZES: u32 = 16;
 
 extern "C" {
     pub fn envy_version() -> *const c_char;
     pub fn envy_error_text(code: u32) -> *const c_char;
     pub fn envy_setup_for(words: u64, owned_pages: u32, setup: *mut Setup) -> u32;
+    pub fn envy_close(m: *mut Handle) -> u32;
+    pub fn envy_leave(m: *mut Handle) -> u32;
+    pub fn envy_open_file(m: *mut Handle, path: *const c_char, setup: *const Setup, flags: u32) -> u32;
+    pub fn envy_open_mapped(m: *mut Handle, path: *const c_char, setup: *const Setup, flags: u32) -> u32;
     pub fn envy_file_shape(path: *const c_char, setup: *mut Setup) -> u32;
-    pub fn envy_file_open(file: *mut File, path: *const c_char, setup: *const Setup) -> u32;
-    pub fn envy_file_sync(file: *mut File) -> u32;
-    pub fn envy_file_close(file: *mut File) -> u32;
-    pub fn envy_mapped_load(m: *mut Handle, address: u32, word: *mut u64) -> u32;
-    pub fn envy_mapped_look(m: *mut Handle, address: u32, word: *mut u64) -> u32;
-    pub fn envy_mapped_read(m: *mut Handle, address: u32, words: *mut u64, n: usize) -> u32;
-    pub fn envy_mapped_store(m: *mut Handle, address: u32, word: u64, holder: *mut u32) -> u32;
-    pub fn envy_mapped_store_run(
+    pub fn envy_file_error(m: *const Handle) -> c_int;
+    pub fn envy_sync(m: *mut Handle) -> u32;
+    pub fn envy_compact(m: *mut Handle) -> u32;
+    pub fn envy_new(m: *mut Handle) -> u32;
+    pub fn envy_region_sizes(setup: *const Setup, sizes: *mut Sizes) -> u32;
+    pub fn envy_sram_shape(sram: *const u64, n: usize, setup: *mut Setup) -> u32;
+    pub fn envy_format_regions(m: *mut Handle, setup: *const Setup, flash: Rows, sram: Words, erases: Words) -> u32;
+    pub fn envy_open_regions(m: *mut Handle, setup: *const Setup, flash: Rows, sram: Words, erases: Words) -> u32;
+    pub fn envy_open_sim(m: *mut Handle, setup: *const Setup, lives: u32) -> u32;
+    pub fn envy_restore(m: *mut Handle, setup: *const Setup, lives: u32, image: *const u8, n: usize) -> u32;
+    pub fn envy_image_size(setup: *const Setup, size: *mut u64) -> u32;
+    pub fn envy_image_shape(image: *const u8, n: usize, setup: *mut Setup) -> u32;
+    pub fn envy_save(m: *mut Handle, image: *mut u8, n: usize) -> u32;
+    pub fn envy_arm_cut(m: *mut Handle, k: u32, g: u64) -> u32;
+    pub fn envy_arm_bad(m: *mut Handle, k: u32, g: u64) -> u32;
+    pub fn envy_cut_now(m: *mut Handle) -> u32;
+    pub fn envy_revive(m: *mut Handle) -> u32;
+    pub fn envy_lives(m: *mut Handle, left: *mut u32) -> u32;
+    pub fn envy_load(m: *mut Handle, address: u32, word: *mut u64) -> u32;
+    pub fn envy_look(m: *mut Handle, address: u32, word: *mut u64) -> u32;
+    pub fn envy_read(m: *mut Handle, address: u32, words: *mut u64, n: usize) -> u32;
+    pub fn envy_store(m: *mut Handle, address: u32, word: u64, holder: *mut u32) -> u32;
+    pub fn envy_store_run(
         m: *mut Handle,
         address: u32,
         words: *const u64,
@@ -146,9 +168,9 @@ extern "C" {
         done: *mut usize,
         holder: *mut u32,
     ) -> u32;
-    pub fn envy_mapped_begin(m: *mut Handle, slot: *mut u32) -> u32;
-    pub fn envy_mapped_put(m: *mut Handle, slot: u32, address: u32, word: u64, holder: *mut u32) -> u32;
-    pub fn envy_mapped_write(
+    pub fn envy_begin(m: *mut Handle, slot: *mut u32) -> u32;
+    pub fn envy_put(m: *mut Handle, slot: u32, address: u32, word: u64, holder: *mut u32) -> u32;
+    pub fn envy_write(
         m: *mut Handle,
         slot: u32,
         address: u32,
@@ -157,12 +179,12 @@ extern "C" {
         done: *mut usize,
         holder: *mut u32,
     ) -> u32;
-    pub fn envy_mapped_view(m: *mut Handle, slot: u32, address: u32, word: *mut u64) -> u32;
-    pub fn envy_mapped_commit(m: *mut Handle, slot: u32) -> u32;
-    pub fn envy_mapped_abort(m: *mut Handle, slot: u32) -> u32;
-    pub fn envy_mapped_tick(m: *mut Handle, did: *mut u32) -> u32;
-    pub fn envy_mapped_counts(m: *mut Handle, counts: *mut Counts) -> u32;
-    pub fn envy_mapped_worn(m: *mut Handle, retired: *mut u32, left: *mut u32) -> u32;
+    pub fn envy_view(m: *mut Handle, slot: u32, address: u32, word: *mut u64) -> u32;
+    pub fn envy_commit(m: *mut Handle, slot: u32) -> u32;
+    pub fn envy_abort(m: *mut Handle, slot: u32) -> u32;
+    pub fn envy_tick(m: *mut Handle, did: *mut u32) -> u32;
+    pub fn envy_counters(m: *mut Handle, counts: *mut Counts) -> u32;
+    pub fn envy_worn(m: *mut Handle, retired: *mut u32, left: *mut u32) -> u32;
     pub fn envy_index_create(m: *mut Handle) -> u32;
     pub fn envy_index_get(m: *mut Handle, key: u64, value: *mut u64) -> u32;
     pub fn envy_index_insert(m: *mut Handle, key: u64, value: u64, before: *mut Old) -> u32;
@@ -191,86 +213,6 @@ extern "C" {
         count: *mut usize,
     ) -> u32;
     pub fn envy_map_scan_down(
-        m: *mut Handle,
-        map: *const Range,
-        key: u64,
-        pairs: *mut Pair,
-        n: usize,
-        count: *mut usize,
-    ) -> u32;
-}
-
-#[cfg(feature = "kept")]
-extern "C" {
-    pub fn envy_kept_open_file(file: *mut KeptFile, path: *const c_char, setup: *const Setup) -> u32;
-    pub fn envy_kept_open_file_bytewise(file: *mut KeptFile, path: *const c_char, setup: *const Setup) -> u32;
-    pub fn envy_kept_close_file(file: *mut KeptFile) -> u32;
-    pub fn envy_kept_file_error(file: *const KeptFile) -> c_int;
-    pub fn envy_kept_sync(m: *mut Handle) -> u32;
-    pub fn envy_kept_compact(m: *mut Handle) -> u32;
-    pub fn envy_kept_load(m: *mut Handle, address: u32, word: *mut u64) -> u32;
-    pub fn envy_kept_look(m: *mut Handle, address: u32, word: *mut u64) -> u32;
-    pub fn envy_kept_read(m: *mut Handle, address: u32, words: *mut u64, n: usize) -> u32;
-    pub fn envy_kept_store(m: *mut Handle, address: u32, word: u64, holder: *mut u32) -> u32;
-    pub fn envy_kept_store_run(
-        m: *mut Handle,
-        address: u32,
-        words: *const u64,
-        n: usize,
-        done: *mut usize,
-        holder: *mut u32,
-    ) -> u32;
-    pub fn envy_kept_begin(m: *mut Handle, slot: *mut u32) -> u32;
-    pub fn envy_kept_put(m: *mut Handle, slot: u32, address: u32, word: u64, holder: *mut u32) -> u32;
-    pub fn envy_kept_write(
-        m: *mut Handle,
-        slot: u32,
-        address: u32,
-        words: *const u64,
-        n: usize,
-        done: *mut usize,
-        holder: *mut u32,
-    ) -> u32;
-    pub fn envy_kept_view(m: *mut Handle, slot: u32, address: u32, word: *mut u64) -> u32;
-    pub fn envy_kept_commit(m: *mut Handle, slot: u32) -> u32;
-    pub fn envy_kept_abort(m: *mut Handle, slot: u32) -> u32;
-    pub fn envy_kept_tick(m: *mut Handle, did: *mut u32) -> u32;
-    pub fn envy_kept_counts(m: *mut Handle, counts: *mut Counts) -> u32;
-    pub fn envy_kept_index_create(m: *mut Handle) -> u32;
-    pub fn envy_kept_index_get(m: *mut Handle, key: u64, value: *mut u64) -> u32;
-    pub fn envy_kept_index_insert(m: *mut Handle, key: u64, value: u64, before: *mut Old) -> u32;
-    pub fn envy_kept_index_remove(m: *mut Handle, key: u64, value: *mut u64) -> u32;
-    pub fn envy_kept_index_count(m: *mut Handle, count: *mut u64) -> u32;
-    pub fn envy_kept_index_next(m: *mut Handle, key: u64, pair: *mut Pair) -> u32;
-    pub fn envy_kept_index_above(m: *mut Handle, key: u64, pair: *mut Pair) -> u32;
-    pub fn envy_kept_index_last(m: *mut Handle, key: u64, pair: *mut Pair) -> u32;
-    pub fn envy_kept_index_scan(m: *mut Handle, key: u64, pairs: *mut Pair, n: usize, count: *mut usize) -> u32;
-    pub fn envy_kept_index_scan_down(m: *mut Handle, key: u64, pairs: *mut Pair, n: usize, count: *mut usize) -> u32;
-    pub fn envy_kept_map_begin(m: *mut Handle, slot: *mut u32) -> u32;
-    pub fn envy_kept_map_create(m: *mut Handle, slot: u32, map: *const Range) -> u32;
-    pub fn envy_kept_map_insert(
-        m: *mut Handle,
-        slot: u32,
-        map: *const Range,
-        key: u64,
-        value: u64,
-        before: *mut Old,
-    ) -> u32;
-    pub fn envy_kept_map_remove(m: *mut Handle, slot: u32, map: *const Range, key: u64, value: *mut u64) -> u32;
-    pub fn envy_kept_map_commit(m: *mut Handle, slot: u32) -> u32;
-    pub fn envy_kept_map_abort(m: *mut Handle, slot: u32) -> u32;
-    pub fn envy_kept_map_get(m: *mut Handle, map: *const Range, key: u64, value: *mut u64) -> u32;
-    pub fn envy_kept_map_count(m: *mut Handle, map: *const Range, count: *mut u64) -> u32;
-    pub fn envy_kept_map_check(m: *mut Handle, map: *const Range, rule: *mut u32) -> u32;
-    pub fn envy_kept_map_scan(
-        m: *mut Handle,
-        map: *const Range,
-        key: u64,
-        pairs: *mut Pair,
-        n: usize,
-        count: *mut usize,
-    ) -> u32;
-    pub fn envy_kept_map_scan_down(
         m: *mut Handle,
         map: *const Range,
         key: u64,

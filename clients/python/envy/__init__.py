@@ -11,7 +11,7 @@
 [100, 200]
 >>> m.close()
 
-It calls the library `libenvy_kept.so.0`, whose contracts are proved; this package is tested. docs/CLIENTS.md and
+It calls the library `libenvy.so.0`, whose contracts are proved; this package is tested. docs/CLIENTS.md and
 docs/LIBRARY.md say what is promised of files."""
 
 from .errors import (
@@ -39,7 +39,7 @@ from .memory import Counts, Did, Memory, open
 from .sizes import Setup, setup_for, shape
 from .transaction import Transaction
 
-__version__ = "0.4.0"
+__version__ = "0.5.0"
 
 __all__ = [
     "AbsentError", "AddressError", "ClosedError", "Counts", "DeniedError", "Did", "EnvyError", "FileError", "ForkedError",

@@ -1,4 +1,4 @@
-"""The shared object `libenvy_kept.so.0`: where it is found, what its calls take, and what crosses by them."""
+"""The shared object `libenvy.so.0`: where it is found, what its calls take, and what crosses by them."""
 
 from __future__ import annotations
 
@@ -9,12 +9,15 @@ import platform
 import sys
 from typing import Any, List
 
-NAME = "libenvy_kept.so.0"
+NAME = "libenvy.so.0"
 
 # The codes that the package asks for by name; c/envy_codes.h has all.
 EMPTY, OFF, RANGE, HELD, CLOSED, NO_MEMORY, OTHER_SHAPE = 1, 2, 3, 4, 7, 9, 20
 ABSENT, SLOT_OPEN, MAP_SETUP, NO_JOURNAL, APPENDED = 54, 56, 57, 72, 75
 SYSTEM, LOCKED, TOO_MANY = 1000, 1001, 1002
+
+# How a file is opened: the sum of these.
+CREATE, BYTEWISE, READING = 1, 2, 4
 
 # A word is less than this; a page has so many words.
 WORDS = 1 << 64
@@ -30,6 +33,10 @@ class CountsStruct(ctypes.Structure):
     _fields_ = [(name, ctypes.c_uint64) for name in "hits misses flushes copies moves erases swaps".split()]
 
 
+# A place for a memory, and what is known of its file.
+Handle = ctypes.c_void_p * 2
+
+
 class PairStruct(ctypes.Structure):
     _fields_ = [("key", ctypes.c_uint64), ("value", ctypes.c_uint64)]
 
@@ -43,46 +50,42 @@ TAKES = {
     "envy_version": (),
     "envy_error_text": (ctypes.c_uint32,),
     "envy_setup_for": (ctypes.c_uint64, ctypes.c_uint32, _setup),
-    "envy_kept_size": (_setup, _a_word),
-    "envy_kept_file_new": (),
-    "envy_kept_file_shape": (_path, _setup),
-    "envy_kept_file_error": (_place,),
-    "envy_kept_open_file": (_place, _path, _setup),
-    "envy_kept_open_file_bytewise": (_place, _path, _setup),
-    "envy_kept_open_file_reading": (_place, _path, _setup),
-    "envy_kept_leave_file": (_place,),
-    "envy_kept_close_file": (_place,),
-    "envy_kept_sync": (_place,),
-    "envy_kept_compact": (_place,),
-    "envy_kept_load": (_place, _address, _a_word),
-    "envy_kept_look": (_place, _address, _a_word),
-    "envy_kept_read": (_place, _address, _pointer, _n),
-    "envy_kept_store": (_place, _address, _word, _number),
-    "envy_kept_store_run": (_place, _address, _pointer, _n, ctypes.POINTER(_n), _number),
-    "envy_kept_begin": (_place, _number),
-    "envy_kept_put": (_place, _slot, _address, _word, _number),
-    "envy_kept_write": (_place, _slot, _address, _pointer, _n, ctypes.POINTER(_n), _number),
-    "envy_kept_view": (_place, _slot, _address, _a_word),
-    "envy_kept_commit": (_place, _slot),
-    "envy_kept_abort": (_place, _slot),
-    "envy_kept_tick": (_place, _number),
-    "envy_kept_counts": (_place, ctypes.POINTER(CountsStruct)),
-    "envy_kept_index_create": (_place,),
-    "envy_kept_index_get": (_place, _word, _a_word),
-    "envy_kept_index_insert": (_place, _word, _word, _pointer),
-    "envy_kept_index_remove": (_place, _word, _a_word),
-    "envy_kept_index_count": (_place, _a_word),
-    "envy_kept_index_next": (_place, _word, _pair),
-    "envy_kept_index_above": (_place, _word, _pair),
-    "envy_kept_index_last": (_place, _word, _pair),
-    "envy_kept_index_scan": (_place, _word, _pointer, _n, ctypes.POINTER(_n)),
-    "envy_kept_index_scan_down": (_place, _word, _pointer, _n, ctypes.POINTER(_n)),
+    "envy_board_size": (_setup, _a_word),
+    "envy_file_shape": (_path, _setup),
+    "envy_file_error": (_place,),
+    "envy_open_file": (_place, _path, _setup, ctypes.c_uint32),
+    "envy_leave": (_place,),
+    "envy_close": (_place,),
+    "envy_sync": (_place,),
+    "envy_compact": (_place,),
+    "envy_load": (_place, _address, _a_word),
+    "envy_look": (_place, _address, _a_word),
+    "envy_read": (_place, _address, _pointer, _n),
+    "envy_store": (_place, _address, _word, _number),
+    "envy_store_run": (_place, _address, _pointer, _n, ctypes.POINTER(_n), _number),
+    "envy_begin": (_place, _number),
+    "envy_put": (_place, _slot, _address, _word, _number),
+    "envy_write": (_place, _slot, _address, _pointer, _n, ctypes.POINTER(_n), _number),
+    "envy_view": (_place, _slot, _address, _a_word),
+    "envy_commit": (_place, _slot),
+    "envy_abort": (_place, _slot),
+    "envy_tick": (_place, _number),
+    "envy_counters": (_place, ctypes.POINTER(CountsStruct)),
+    "envy_index_create": (_place,),
+    "envy_index_get": (_place, _word, _a_word),
+    "envy_index_insert": (_place, _word, _word, _pointer),
+    "envy_index_remove": (_place, _word, _a_word),
+    "envy_index_count": (_place, _a_word),
+    "envy_index_next": (_place, _word, _pair),
+    "envy_index_above": (_place, _word, _pair),
+    "envy_index_last": (_place, _word, _pair),
+    "envy_index_scan": (_place, _word, _pointer, _n, ctypes.POINTER(_n)),
+    "envy_index_scan_down": (_place, _word, _pointer, _n, ctypes.POINTER(_n)),
 }
 RESULTS = {
     "envy_version": ctypes.c_char_p,
     "envy_error_text": ctypes.c_char_p,
-    "envy_kept_file_new": ctypes.c_void_p,
-    "envy_kept_file_error": ctypes.c_int,
+    "envy_file_error": ctypes.c_int,
 }
 
 

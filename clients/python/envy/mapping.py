@@ -41,21 +41,21 @@ class Map(MutableMapping[int, int]):
         self._place = memory._place
         with self._place as handle:
             if new:
-                self._place.check(self._place.c.envy_kept_index_create(handle))
+                self._place.check(self._place.c.envy_index_create(handle))
                 self._place.map_at = self._place.writes
             self._check_words(handle)
 
     def __getitem__(self, key: SupportsIndex) -> int:
-        return self._number(self._place.c.envy_kept_index_get, _key_of(key))
+        return self._number(self._place.c.envy_index_get, _key_of(key))
 
     def __setitem__(self, key: SupportsIndex, value: SupportsIndex) -> None:
         at, word = word_of(key), word_of(value)
         with self._place as handle:
             self._check_words(handle)
-            self._place.check(self._place.c.envy_kept_index_insert(handle, at, word, None), f"key {at}")
+            self._place.check(self._place.c.envy_index_insert(handle, at, word, None), f"key {at}")
 
     def __delitem__(self, key: SupportsIndex) -> None:
-        self._number(self._place.c.envy_kept_index_remove, _key_of(key))
+        self._number(self._place.c.envy_index_remove, _key_of(key))
 
     def __contains__(self, key: object) -> bool:
         try:
@@ -65,7 +65,7 @@ class Map(MutableMapping[int, int]):
         return True
 
     def __len__(self) -> int:
-        return self._number(self._place.c.envy_kept_index_count)
+        return self._number(self._place.c.envy_index_count)
 
     def __iter__(self) -> Iterator[int]:
         return iter(self.keys())
@@ -87,22 +87,22 @@ class Map(MutableMapping[int, int]):
 
     def at_least(self, key: SupportsIndex) -> Optional[Pair]:
         """Returns the pair with the least key that is at least this one, or None."""
-        return self._nearest(self._place.c.envy_kept_index_next, word_of(key))
+        return self._nearest(self._place.c.envy_index_next, word_of(key))
 
     def above(self, key: SupportsIndex) -> Optional[Pair]:
         """Returns the pair with the least key above this one, or None."""
-        return self._nearest(self._place.c.envy_kept_index_above, word_of(key))
+        return self._nearest(self._place.c.envy_index_above, word_of(key))
 
     def at_most(self, key: SupportsIndex) -> Optional[Pair]:
         """Returns the pair with the greatest key that is at most this one, or None."""
-        return self._nearest(self._place.c.envy_kept_index_last, word_of(key))
+        return self._nearest(self._place.c.envy_index_last, word_of(key))
 
     def pop(self, key: SupportsIndex, *default: Any) -> Any:
         """Takes a key out, and returns its value; or returns the default, if one is given."""
         if len(default) > 1:
             raise TypeError("pop takes a key and one default")
         try:
-            return self._number(self._place.c.envy_kept_index_remove, _key_of(key))
+            return self._number(self._place.c.envy_index_remove, _key_of(key))
         except AbsentError:
             if default:
                 return default[0]
@@ -132,7 +132,7 @@ class Map(MutableMapping[int, int]):
         """Takes all pairs out, in one transaction."""
         with self._place as handle:
             self._check_words(handle)
-            self._place.check(self._place.c.envy_kept_index_create(handle))
+            self._place.check(self._place.c.envy_index_create(handle))
 
     def __reduce__(self) -> Any:
         raise TypeError("a map can't be copied or pickled; dict(map) is a copy of its pairs")
@@ -158,7 +158,7 @@ class Map(MutableMapping[int, int]):
             self._place.check(code)
         return pair.key, pair.value
 
-    def _check_words(self, handle: int) -> None:
+    def _check_words(self, handle: Any) -> None:
         """Checks that the words are a map, if other calls than those of a map may have changed them. The library can't, and
         wrong words might lead it anywhere. Its own refusals come before: those of an open slot, and of the sizes."""
         place, setup = self._place, self._memory.setup
@@ -174,9 +174,9 @@ class Map(MutableMapping[int, int]):
             raise MapError(None, f"the array holds no map: {why}") from None
         place.map_at = place.writes
 
-    def _read(self, handle: int, address: int, n: int) -> List[int]:
+    def _read(self, handle: Any, address: int, n: int) -> List[int]:
         words = (ctypes.c_uint64 * n)()
-        self._place.check(self._place.c.envy_kept_read(handle, address, words, n))
+        self._place.check(self._place.c.envy_read(handle, address, words, n))
         return words[:]
 
 

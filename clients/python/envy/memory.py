@@ -127,7 +127,7 @@ class Memory(Sequence[int]):
             return self._read(range_of(key, self._n))
         word, address = ctypes.c_uint64(), address_of(key, self._n)
         with self._place as handle:
-            self._place.check(self._place.c.envy_kept_load(handle, address, word))
+            self._place.check(self._place.c.envy_load(handle, address, word))
         return word.value
 
     @overload
@@ -142,7 +142,7 @@ class Memory(Sequence[int]):
             return
         holder, address, word = ctypes.c_uint32(), address_of(key, self._n), word_of(value)
         with self._place as handle:
-            code = self._place.c.envy_kept_store(handle, address, word, holder)
+            code = self._place.c.envy_store(handle, address, word, holder)
             self._place.check_held(code, holder.value)
             self._place.writes += 1
 
@@ -154,7 +154,7 @@ class Memory(Sequence[int]):
         """Returns the committed word at an address: what open transactions put isn't seen."""
         word, at = ctypes.c_uint64(), address_of(address, self._n)
         with self._place as handle:
-            self._place.check(self._place.c.envy_kept_look(handle, at, word))
+            self._place.check(self._place.c.envy_look(handle, at, word))
         return word.value
 
     def transaction(self) -> Transaction:
@@ -173,26 +173,26 @@ class Memory(Sequence[int]):
     def sync(self) -> None:
         """Brings all that was done to the disk. FileError: it may be there or not, and the memory is over."""
         with self._place as handle:
-            self._place.check(self._place.c.envy_kept_sync(handle))
+            self._place.check(self._place.c.envy_sync(handle))
 
     def compact(self) -> None:
         """A sync that leaves in the file no more than the array takes. FileError with code 75: all is on the disk, but no
         second file could be written; the memory goes on."""
         with self._place as handle:
-            self._place.check(self._place.c.envy_kept_compact(handle))
+            self._place.check(self._place.c.envy_compact(handle))
 
     def tick(self) -> Did:
         """Does one step of work in the background, and returns what. No word changes."""
         did = ctypes.c_uint32()
         with self._place as handle:
-            self._place.check(self._place.c.envy_kept_tick(handle, did))
+            self._place.check(self._place.c.envy_tick(handle, did))
         return Did(did.value)
 
     def counts(self) -> Counts:
         """Returns what the memory has done since it was opened."""
         counts = CountsStruct()
         with self._place as handle:
-            self._place.check(self._place.c.envy_kept_counts(handle, counts))
+            self._place.check(self._place.c.envy_counters(handle, counts))
         return Counts(*(getattr(counts, name) for name in Counts._fields))
 
     def close(self, sync: bool = True) -> None:
@@ -222,7 +222,7 @@ class Memory(Sequence[int]):
         low, high = sorted((addresses[0], addresses[-1]))
         words = (ctypes.c_uint64 * (high - low + 1))()
         with self._place as handle:
-            self._place.check(self._place.c.envy_kept_read(handle, low, words, len(words)))
+            self._place.check(self._place.c.envy_read(handle, low, words, len(words)))
         return picked(words[:], addresses)
 
     def _write(self, addresses: range, words: Any) -> None:

@@ -7,14 +7,14 @@ import ctypes
 import errno
 import os
 import threading
-from typing import Deque, List, Optional, Set
+from typing import Any, Deque, List, Set
 
 from . import library
-from .errors import ClosedError, EnvyError, FileError, ForkedError, HeldError, NoMemoryError, error, file_error
+from .errors import ClosedError, EnvyError, FileError, ForkedError, HeldError, error, file_error
 from .library import SetupStruct
 
-# Handles of files that were closed. The library keeps a handle until the process ends, so the next file gets one of these.
-_unused: List[int] = []
+# Handles of files that were closed. The library keeps a handle's place until the process ends, so the next file gets it.
+_unused: List[Any] = []
 
 
 class Place:
@@ -25,7 +25,7 @@ class Place:
         self.path = path
         self.process = os.getpid()
         self.lock = threading.RLock()
-        self.handle: Optional[int] = None
+        self.handle: Any = None
         # slots of transactions that nobody ended: the next call aborts them
         self.left: Deque[int] = collections.deque()
         # slots that are open
@@ -33,28 +33,16 @@ class Place:
         # how often words were changed by other calls than those of a map, and how often when they were seen to be one
         self.writes = 0
         self.map_at: Optional[int] = None
-        name, handle = library.encoded(path), self._unused_handle()
-        if readonly:
-            call = self.c.envy_kept_open_file_reading
-        else:
-            call = self.c.envy_kept_open_file_bytewise if bytewise else self.c.envy_kept_open_file
-        code = call(handle, name, ctypes.byref(setup))
+        name, handle = library.encoded(path), _unused.pop() if _unused else library.Handle()
+        flags = library.READING if readonly else library.CREATE | (library.BYTEWISE if bytewise else 0)
+        code = self.c.envy_open_file(handle, name, ctypes.byref(setup), flags)
         if code:
             why = ctypes.get_errno()
             _unused.append(handle)
             raise self._error(code, why, path)
         self.handle = handle
 
-    def _unused_handle(self) -> int:
-        try:
-            return _unused.pop()
-        except IndexError:
-            handle = self.c.envy_kept_file_new()
-            if not handle:
-                raise NoMemoryError(library.NO_MEMORY) from None
-            return handle
-
-    def __enter__(self) -> int:
+    def __enter__(self) -> Any:
         # before the lock, which another thread may have had when the process was forked off
         if self.process != os.getpid():
             raise ForkedError(library.OFF, errno.EPERM, self.path)
@@ -64,7 +52,7 @@ class Place:
             raise ClosedError(library.EMPTY, self.path)
         while self.left:
             slot = self.left.popleft()
-            self.c.envy_kept_abort(self.handle, slot)
+            self.c.envy_abort(self.handle, slot)
             self.slots.discard(slot)
         return self.handle
 
@@ -79,7 +67,7 @@ class Place:
         """Returns the error of a call that answered this, for the thread that has the lock and made it just now."""
         why = ctypes.get_errno()
         if code == library.OFF:
-            why = self.c.envy_kept_file_error(self.handle)
+            why = self.c.envy_file_error(self.handle)
         return self._error(code, why, detail)
 
     def check(self, code: int, detail: str = "") -> None:
@@ -103,8 +91,8 @@ class Place:
             handle, self.handle = self.handle, None
             if handle is None:
                 return
-            code = (self.c.envy_kept_close_file if sync else self.c.envy_kept_leave_file)(handle)
-            why = self.c.envy_kept_file_error(handle)
+            code = (self.c.envy_close if sync else self.c.envy_leave)(handle)
+            why = ctypes.get_errno()
             _unused.append(handle)
         if code:
             raise file_error(code, why, self.path)
@@ -114,7 +102,7 @@ class Place:
         if self.lock.acquire(blocking=False):
             handle, self.handle = self.handle, None
             if handle is not None:
-                self.c.envy_kept_close_file(handle)
+                self.c.envy_close(handle)
             self.lock.release()
 
     def drop(self) -> None:

@@ -49,7 +49,7 @@ def struct_of(setup: Setup) -> SetupStruct:
         if not 0 <= number < 1 << (64 if name == "limit" else 32):
             raise ValueError(f"{name}={number} is out of range")
     struct, size = SetupStruct(*setup), ctypes.c_uint64()
-    code = library.load().envy_kept_size(ctypes.byref(struct), size)
+    code = library.load().envy_board_size(ctypes.byref(struct), size)
     if code:
         raise error(code, str(tuple(setup)))
     return struct
@@ -84,7 +84,7 @@ def shape(path: Path) -> Setup:
 
     FormatError: it holds none; MissingError (a FileNotFoundError): there is no such file; FileError: it can't be read."""
     struct = SetupStruct()
-    code = library.load().envy_kept_file_shape(library.encoded(path), ctypes.byref(struct))
+    code = library.load().envy_file_shape(library.encoded(path), ctypes.byref(struct))
     if code >= library.SYSTEM:
         raise file_error(code, ctypes.get_errno(), os.fsdecode(path))
     if code:

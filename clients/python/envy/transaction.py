@@ -31,7 +31,7 @@ class Transaction:
         self._n = len(memory)
         slot = ctypes.c_uint32()
         with place as handle:
-            place.check(place.c.envy_kept_begin(handle, slot))
+            place.check(place.c.envy_begin(handle, slot))
             place.slots.add(slot.value)
         self._slot = slot.value
         self._dropped = weakref.finalize(self, place.left.append, self._slot)
@@ -73,11 +73,11 @@ class Transaction:
 
     def commit(self) -> None:
         """Keeps all that was put, and ends the transaction."""
-        self._end(self._place.c.envy_kept_commit)
+        self._end(self._place.c.envy_commit)
 
     def abort(self) -> None:
         """Puts back the words of its pages, and ends the transaction."""
-        self._end(self._place.c.envy_kept_abort)
+        self._end(self._place.c.envy_abort)
 
     def __enter__(self) -> "Transaction":
         return self
@@ -104,7 +104,7 @@ class Transaction:
         with self._place as handle:
             self._check_open()
             for address in addresses:
-                self._place.check(self._place.c.envy_kept_view(handle, self._slot, address, word))
+                self._place.check(self._place.c.envy_view(handle, self._slot, address, word))
                 words.append(word.value)
         return words
 
@@ -112,7 +112,7 @@ class Transaction:
         holder = ctypes.c_uint32()
         with self._place as handle:
             self._check_open()
-            code = self._place.c.envy_kept_put(handle, self._slot, address, word, holder)
+            code = self._place.c.envy_put(handle, self._slot, address, word, holder)
             self._place.check_held(code, holder.value, f"address {address}")
 
     def _write(self, addresses: range, words: Any) -> None:
@@ -134,15 +134,15 @@ class Transaction:
             self._dropped.detach()
 
 
-def store(place: Place, handle: int, addresses: range, words: Any) -> None:
+def store(place: Place, handle: Any, addresses: range, words: Any) -> None:
     """Stores words to addresses in a row, outside transactions. The first that is refused ends it."""
     holder, done = ctypes.c_uint32(), ctypes.c_size_t()
-    code = place.c.envy_kept_store_run(handle, addresses[0], buffer_of(words), len(words), done, holder)
+    code = place.c.envy_store_run(handle, addresses[0], buffer_of(words), len(words), done, holder)
     place.check_held(code, holder.value, f"address {addresses[0] + done.value}")
     place.writes += 1
 
 
-def write(place: Place, handle: int, slot: int, addresses: range, words: Any) -> None:
+def write(place: Place, handle: Any, slot: int, addresses: range, words: Any) -> None:
     """Puts words to such addresses in a slot. Words in a row that meet more pages than may yet be owned are refused before the
     first. Else the first that is refused ends it; the earlier ones stay put."""
     if not addresses:
@@ -151,10 +151,10 @@ def write(place: Place, handle: int, slot: int, addresses: range, words: Any) ->
         addresses, words = addresses[::-1], words[::-1]
     holder, done = ctypes.c_uint32(), ctypes.c_size_t()
     if addresses.step == 1:
-        code = place.c.envy_kept_write(handle, slot, addresses[0], buffer_of(words), len(words), done, holder)
+        code = place.c.envy_write(handle, slot, addresses[0], buffer_of(words), len(words), done, holder)
         place.check_held(code, holder.value, f"address {addresses[0] + done.value}")
         return
     for address, word in zip(addresses, words):
-        code = place.c.envy_kept_put(handle, slot, address, word, holder)
+        code = place.c.envy_put(handle, slot, address, word, holder)
         place.check_held(code, holder.value, f"address {address}")
 

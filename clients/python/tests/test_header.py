@@ -50,11 +50,13 @@ class HeaderTest(unittest.TestCase):
         kinds.update(BROKEN_MAP=envy.MapError)
         for name, kind in kinds.items():
             self.assertIs(errors.CLASSES[codes[name]], kind, name)
+        flags = {name: int(n) for name, n in re.findall(r"^ +ENVY_(\w+) = (\d+)", header("envy.h"), re.M)}
+        self.assertEqual([library.CREATE, library.BYTEWISE, library.READING], [flags["CREATE"], flags["BYTEWISE"], flags["READING"]])
         did = re.search(r"enum envy_did \{(.*?)\};", header("envy_codes.h"), re.S).group(1)
         self.assertEqual({it.name: it.value for it in envy.Did}, {name: int(n) for name, n in re.findall(r"ENVY_(\w+) = (\d+)", did)})
 
     def test_calls(self):
-        text = "".join(header(f"envy_{name}.h") for name in ("kept", "kept_file", "kept_index", "setup", "text"))
+        text = "".join(header(name) for name in ("envy.h", "envy_setup.h", "envy_text.h"))
         counted = {name: len(takes.split(",")) for name, takes in re.findall(r"^\w.*?\b(envy_\w+)\(([^)]*)\);", text, re.M)}
         for name, takes in library.TAKES.items():
             self.assertEqual(max(1, len(takes)), counted[name], name)

@@ -1,0 +1,1 @@
+#include "envy_old.h"
