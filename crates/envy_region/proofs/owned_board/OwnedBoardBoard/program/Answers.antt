@@ -9,7 +9,7 @@ invariant_of-self c =
     let s = c.args.self.now in
     let did = c.program_row.ensures in
     record {
-      sound = IsBoard-bank s.shape s.flash c.program_row.new.self s.sram.items s.begun c.more.result s.sound did.whole
+      sound = IsBoard-bank s.shape s.flash c.program_row.new.self s.sram.items s.begun c.more-self.result s.sound did.whole
           (ap (λ (b : BankState). length b.flash) did.row ∙ length-set s.flash.flash c.args.row _) (ap (λ (b : BankState). length b.erases) did.row);
       same_rows = ap (λ (b : BankState). b.rows) did.row ∙ s.same_rows;
     }
@@ -18,6 +18,6 @@ pub returns : goal.returns
 returns c =
     let s = c.args.self.now in (
       refl,
-      ap (λ (b : BankState). region_state s.shape b.flash s.sram.items b.erases c.more.result) c.program_row.ensures.row
-          ∙ ap (λ n. region_state s.shape _ s.sram.items s.flash.erases n) c.more.ensures,
+      ap (λ (b : BankState). region_state s.shape b.flash s.sram.items b.erases c.more-self.result) c.program_row.ensures.row
+          ∙ ap (λ n. region_state s.shape _ s.sram.items s.flash.erases n) c.more-self.ensures,
     )
