@@ -1,4 +1,5 @@
-use Rattle.std.proofs.Common.{◌∙◌, ap, length, length-set, refl}
+use Rattle.std.proofs.Common.{◌∙◌, ℕ, ap, length, length-set, refl}
+use Rattle.envy_base.specs.Counting.{up}
 use Rattle.envy_bank.specs.Rows.{BankState}
 use Rattle.envy_region.specs.Region.{region_state}
 use Rattle.envy_region.proofs.Banked.{IsBoard-bank}
@@ -16,8 +17,9 @@ invariant_of-self c =
 
 pub returns : goal.returns
 returns c =
-    let s = c.args.self.now in (
+    let s = c.args.self.now in
+    let new = c.program_row.new.self in (
       refl,
-      ap (λ (b : BankState). region_state s.shape b.flash s.sram.items b.erases c.more-self.result) c.program_row.ensures.row
-          ∙ ap (λ n. region_state s.shape _ s.sram.items s.flash.erases n) c.more-self.ensures,
+      ap (λ (n : ℕ). region_state s.shape new.flash s.sram.items new.erases n) c.more-self.ensures
+          ∙ ap (λ (b : BankState). region_state s.shape b.flash s.sram.items b.erases (up s.begun)) c.program_row.ensures.row,
     )
