@@ -35,7 +35,7 @@ pub fn words_name_commands()
         ≡ Err (Rule 17)) }
     ensures transfers { command_of (codes "tpca" ∷ codes "--transfers" ∷ codes "1070" ∷ []) ≡ Err (Rule 11) }
     ensures judged { (command_of (codes "audit" ∷ []) ≡ Ok (Audit USUAL_ROWS))
-        × (command_of (codes "map" ∷ []) ≡ Ok (Segments USUAL_ROWS)) }
+        × (command_of (codes "map" ∷ []) ≡ Ok (Map USUAL_ROWS)) }
     ensures open { command_of (codes "resume" ∷ []) ≡ Ok (Resume Greedy 100 None 4294967295 USUAL_ROWS) }
     ensures tree { command_of (codes "index" ∷ codes "--pages=19" ∷ codes "--shadows=31" ∷ []) ≡ Err (Rule 13) }
     ensures heap { command_of (codes "index" ∷ codes "--pages=19" ∷ []) ≡ Err (Rule 14) }

@@ -115,7 +115,7 @@ Found-whole c v m rows sound some end few found = record {
   all = λ q mine kept. let low = in-fill c v q sound mine kept some in inl (found.all q mine kept (omega arith));
 }
 
--- what a row's keeper says of it
+-- what a row's owner says of it
 pub kept-found : (sh : Shape) (f : Fields) (q : ℕ) (found : Option Kept) → Keeps sh f q found → is_some found ≡ true → IsKept f q
 kept-found sh f q None keeps is = absurd (let no : false ≡ true = is in cc)
 kept-found sh f q (Some kept) keeps is = (kept.page, Names-named f kept.page q kept.undo keeps.2)

@@ -120,8 +120,8 @@ room_between-requires-clause-last g c =
     let low = (c.requires.plan.prepared.aside c.args.segment c.in-Some.first c.in-Some.last c.requires.copying aside).1 in
     subst (λ (sh : Shape). c.in-Some.last < positions_of sh) (sym c.requires.pool.shape) low
 
-pub keeper-requires-clause-row : goal.keeper-requires-clause-row
-keeper-requires-clause-row g c =
+pub row_owner-requires-clause-row : goal.row_owner-requires-clause-row
+row_owner-requires-clause-row g c =
     let now = chart (g.B.Board.state c.args.board.now) in
     let items = c.loop-turn.self-inside.moves.items in
     let long = c.remove-row.ensures.len in
