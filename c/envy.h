@@ -25,7 +25,8 @@
    - It makes a handle with ENVY_INIT and calls envy_new on it at most once. Until that answered ENVY_DONE every other call
      answers ENVY_EMPTY, except envy_open_file, envy_open_mapped and envy_open_disk, which call it by themselves. It neither
      copies nor changes a handle.
-   - One call at a time uses a handle. It may use it from any thread if it orders the calls itself.
+   - One call at a time uses a handle. It may use it from any thread if it orders the calls itself. A process that was forked
+     off while a mapped file was open makes no call of it but envy_close.
    - Every pointer is to memory that is there, aligned, of the size that is said, and in no two arguments at once. None is
      NULL, also not that of no words, except `holder`, `done`, `before` and `rule`, if the program doesn't ask for them.
    - From the call that gives regions until envy_close, or until a call that gave them is refused, nobody else reads or
