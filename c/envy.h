@@ -94,8 +94,9 @@ uint32_t envy_open_file(envy *m, const char *path, const envy_setup *setup, uint
 
 /* Opens the memory in the file at a path, which the process maps, and locks it. Its words outlive the process as soon as a
    call has ended. The system writes them to the disk when and in which order it likes: so a machine that stops may leave the
-   file as it likes, except if nothing was changed since an envy_sync. Of the flags ENVY_CREATE and ENVY_READ_SIZES are looked at. A new
-   file is there formatted or not at all. If the setup is NULL or one of zeros, the sizes are those of the file.
+   file as it likes, except if nothing was changed since an envy_sync. Of the flags ENVY_CREATE and ENVY_READ_SIZES are looked
+   at. A new file is there formatted or not at all. If the setup is NULL or one of zeros, the sizes are those of the file.
+   Descriptors and access rights are as of envy_open_file.
    ENVY_DONE; ENVY_SYSTEM, with errno; ENVY_LOCKED; or what envy_new, envy_file_shape, envy_format_regions and
    envy_open_regions answer. Refused, the file is as before, and the place holds none. */
 uint32_t envy_open_mapped(envy *m, const char *path, const envy_setup *setup, uint32_t flags);
@@ -130,7 +131,8 @@ uint32_t envy_open_port(envy *m, const envy_setup *setup, const uint8_t *file, s
 /* How many of the n bytes of a file opening it cuts off, if they hold what reads as a sync; else 0. */
 uint64_t envy_journal_cut(const uint8_t *file, size_t n);
 
-/* Writes how many bytes the board of a memory in a file takes from the heap. ENVY_DONE, ENVY_POLICY or an ENVY_SETUP_*. */
+/* Writes how many bytes the rows, the SRAM and the counts of erases of a memory in a file take from the heap; beside them it
+   takes one for each row, and the tables of its parts. ENVY_DONE, ENVY_POLICY or an ENVY_SETUP_*. */
 uint32_t envy_board_size(const envy_setup *setup, uint64_t *bytes);
 
 /* Brings all that a memory in a file holds to the disk, with what open transactions put. ENVY_DONE: it is there.
