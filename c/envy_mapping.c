@@ -19,8 +19,7 @@ enum { NAMES = 100, NUMBERS = 40 };
 
 typedef uint32_t open_regions(envy *, const envy_setup *, envy_rows, envy_words, envy_words);
 
-/* Has a call take up what stands in the mapped words: as much of each region as is there, and what is too much belongs
-   to the last. */
+/* Has a call format or open the mapped words: each region gets as much as is there, and the last one what is too much. */
 static uint32_t opened(envy_mapping *f, const envy_setup *setup, const envy_sizes *sizes, open_regions *call) {
     uint64_t *at = f->at;
     size_t words = f->bytes / WORD;
@@ -33,7 +32,7 @@ static uint32_t opened(envy_mapping *f, const envy_setup *setup, const envy_size
     return call(&f->memory, setup, flash, sram, erases);
 }
 
-/* Maps the file that was opened, and has a call take up what stands there. */
+/* Maps the file that was opened, and has a call format or open it. */
 static uint32_t mapped(envy_mapping *f, const envy_setup *setup, const envy_sizes *sizes, open_regions *call) {
     struct stat found;
     if (fstat(f->descriptor, &found)) return ENVY_SYSTEM;
@@ -57,7 +56,7 @@ static uint32_t locked(int descriptor) {
     return errno == EWOULDBLOCK ? ENVY_LOCKED : ENVY_SYSTEM;
 }
 
-/* Takes the lock of the file that was opened, maps it, and has a call take up what stands there. */
+/* Takes the lock of the file that was opened, maps it, and has a call format or open it. */
 static uint32_t taken(envy_mapping *f, const envy_setup *setup, const envy_sizes *sizes, open_regions *call) {
     uint32_t code = locked(f->descriptor);
     return code == ENVY_DONE ? mapped(f, setup, sizes, call) : code;
@@ -139,8 +138,8 @@ uint32_t envy_mapping_open(envy_mapping *f, const char *path, const envy_setup *
     return code;
 }
 
-/* The SRAM lies behind the flash, whose rows its first words tell: so it is where they tell just the rows before it,
-   and where the words in all are those of the setup. */
+/* Finds the SRAM, which lies after the flash: its first words name the number of rows. So it begins at a row if they name the
+   number of rows before it, and if the words of the whole file are those of that setup. */
 static uint32_t found(const uint64_t *at, size_t words, envy_setup *setup) {
     uint32_t why = ENVY_UNFORMATTED;
     for (size_t rows = 1; rows * ROW_WORDS < words; rows++) {
@@ -157,7 +156,8 @@ static uint32_t found(const uint64_t *at, size_t words, envy_setup *setup) {
 }
 
 uint32_t envy_mapping_shape(const char *path, envy_setup *setup) {
-    int descriptor = open(path, O_RDONLY | O_CLOEXEC);
+    /* (so that a pipe isn't waited for) */
+    int descriptor = open(path, O_RDONLY | O_CLOEXEC | O_NONBLOCK);
     if (descriptor < 0) return ENVY_SYSTEM;
     struct stat about;
     uint32_t code = ENVY_SYSTEM;

@@ -58,6 +58,7 @@ int envy_served_error(const envy_served *f);
 
 /* The calls of the memory alone, without its file. */
 uint32_t envy_proved_sync(envy *m);
+uint32_t envy_proved_compact(envy *m);
 void envy_proved_close(envy *m);
 
 #ifdef __cplusplus

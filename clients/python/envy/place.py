@@ -33,7 +33,7 @@ class Place:
         # how often words were changed by other calls than those of a map, and how often when they were seen to be one
         self.writes = 0
         self.map_at: Optional[int] = None
-        name, handle = library.encoded(path), _unused.pop() if _unused else library.Handle()
+        name, handle = library.encoded(path), self._unused_handle()
         flags = library.READING if readonly else library.CREATE | (library.BYTEWISE if bytewise else 0)
         code = self.c.envy_open_file(handle, name, ctypes.byref(setup), flags)
         if code:
@@ -41,6 +41,13 @@ class Place:
             _unused.append(handle)
             raise self._error(code, why, path)
         self.handle = handle
+
+    def _unused_handle(self) -> Any:
+        # (asked of the list at once, which other threads take from too)
+        try:
+            return _unused.pop()
+        except IndexError:
+            return library.Handle()
 
     def __enter__(self) -> Any:
         # before the lock, which another thread may have had when the process was forked off
