@@ -55,6 +55,7 @@ works-none puts p = record {
   cuts = omega arith;
   bads = omega arith;
   cut = λ on off. absurd (let e : true ≡ false = sym on ∙ off in cc);
+  fixed = refl;
   notes = refl;
   programs = omega arith;
   erases = omega arith;

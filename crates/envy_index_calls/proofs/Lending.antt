@@ -98,6 +98,7 @@ fixed-works puts p q b d same notes cuts bads cut s = record {
   cuts = cuts;
   bads = bads;
   cut = cut;
+  fixed = same;
   notes = notes;
   programs = s.programs;
   erases = s.erases;
@@ -208,6 +209,7 @@ works-same p = record {
   cuts = omega arith;
   bads = omega arith;
   cut = λ on off. absurd (let e : true ≡ false = sym on ∙ off in cc);
+  fixed = refl;
   notes = refl;
   programs = omega arith;
   erases = omega arith;

@@ -14,6 +14,7 @@ use Rattle.envy_soundness.specs.Words.{durable}
 use Rattle.envy_memory.specs.Below.{flush_programs, flush_erases}
 use Rattle.envy_memory.specs.Calls.{fresh}
 use Rattle.envy_memory.specs.Picture.{Picture}
+use Rattle.envy_memory.specs.Sheets.{fixed_of}
 use Rattle.envy_btree.specs.Answers.{IsFull, IsWritten}
 use Rattle.envy_btree.specs.Index.{IsIndex}
 use Rattle.envy_btree.specs.Pairs.{assoc, with_pair, without}
@@ -80,13 +81,14 @@ Declines p MapSetup = (p.chart.shape.pages < 20) ⊎ (MOST_MAP_PAGES < p.chart.s
 Declines p SlotOpen = HasOpenFrom 0 p.chart true × (20 ≤ p.chart.shape.pages) × (p.chart.shape.pages ≤ MOST_MAP_PAGES) × (32 ≤ p.chart.shape.shadows)
 Declines p code = ⊥
 
--- What every call does: sizes stay, and what the board's owner notes; power that was on and is
--- off failed in the call. No more flash work began than so many puts may begin.
+-- What every call does: sizes stay, and so do cuts by hand, plans, returns of power, and what the board's owner notes; power that
+-- was on and is off failed in the call. No more flash work began than so many puts may begin.
 pub record Works (puts : ℕ) (p q : Picture) : Type 0 where
   pub shape : q.chart.shape ≡ p.chart.shape
   pub cuts : p.chart.cuts ≤ q.chart.cuts
   pub bads : p.chart.bads ≤ q.chart.bads
   pub cut : IsTrue p.chart.on → q.chart.on ≡ false → Rose p.chart.cuts q.chart.cuts
+  pub fixed : fixed_of q.chart ≡ fixed_of p.chart
   pub notes : q.chart.notes ≡ p.chart.notes
   pub programs : q.chart.begun ≤ p.chart.begun + puts * flush_programs p.chart.shape.rows
   pub erases : sum q.chart.erases ≤ sum p.chart.erases + puts * flush_erases

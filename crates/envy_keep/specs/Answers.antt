@@ -29,7 +29,7 @@ pub record TraceAnswers (line : Line) (reply : Reply) (old new : Picture) : Type
   pub works : WorksOf line old.chart new.chart
   pub rules : FollowsRules line reply old new
 
--- A sync succeeded: what the board's numbers tell is on the disk is what it holds, and nothing else changed. Or it failed,
+-- A sync succeeded: what it brought to the disk is what the board holds, and nothing else changed. Or it failed,
 -- and power is off.
 abbrev pub SyncsTo : KeepReply → Picture → Picture → Type 0
 SyncsTo reply old new =

@@ -42,7 +42,7 @@ abbrev pub HasBoard : Picture → List KeepTurn → Chart → Type 0
 HasBoard first turns board = (last : Picture) × Plays first turns last × (board ≡ last.chart)
 
 -- The board that the last sync brought to the disk is that of the memory behind these turns, of which the newest was
--- answered `synced`. Where there are none, it is what was on the disk when the memory began, by the numbers of its board.
+-- answered `synced`. Where there are none, it is what was on the disk when the memory began, by the notes of its board.
 abbrev pub IsOnDisk : Picture → List KeepTurn → Chart → Type 0
 IsOnDisk first [] board = IsLast board first.chart
 IsOnDisk first (turn ∷ earlier) board = HasBoard first (turn ∷ earlier) board

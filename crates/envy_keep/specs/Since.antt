@@ -23,7 +23,7 @@ use Rattle.envy_keep.specs.Turns.{KeepTurn, KeepRun, LosesKeep, synced_turns, tr
 abbrev pub Start : Type 0
 Start = RunStart
 
--- The board as it was behind the last sync that succeeded, by the numbers of the board now. It stood for the array of the
+-- The board as it was behind the last sync that succeeded, by the notes of the board now. It stood for the array of the
 -- last line that was answered `synced`, or of the first line, and a restart would have found the words of that. It was the
 -- board of the memory behind that line.
 pub record IsSaved (start : Start) (now : Chart) (turns : List KeepTurn) : Type 0 where

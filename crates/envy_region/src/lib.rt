@@ -1,11 +1,11 @@
 //! Boards over plain memory: flash as rows of 32 words, SRAM as words, and a count of erases for each segment.
 //!
 //! `BorrowedBoard` is over memory that its caller owns, as of a file that is mapped. `OrderedBoard` is the same with a barrier
-//! after each put, for memory that outlives power. `OwnedBoard` owns its memory, and `Cells` is such memory for a board on which
-//! nothing was done: its flash is all ones, and its SRAM all zeros.
+//! after each put, for memory that outlives power. `OwnedBoard` has memory of its own, and a row of it takes none before it is
+//! programmed.
 //!
 //! Power doesn't fail here, and no flash operation goes wrong. If the process that owns the memory is killed inside
-//! a call, what it leaves is what a failure of power leaves. Nothing costs more than the words that it writes.
+//! a call, what it leaves is what a failure of power leaves.
 #![tactic(auto)]
 
 mod borrowed_board;

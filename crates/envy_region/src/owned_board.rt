@@ -23,6 +23,10 @@ pub struct OwnedBoard {
 
 impl OwnedBoard {
     /// A board of these sizes, on which nothing was done yet: its flash is all ones, and its SRAM all zeros.
+    ///
+    /// # Errors
+    ///
+    /// `AllocError`: there is no memory for it.
     pub fn blank(alloc: Global, shape: &Shape) -> Result<OwnedBoard, AllocError>
         requires { IsShape shape.now }
         ensures shape { IfOk result (λ board. board.shape ≡ shape.now) }
