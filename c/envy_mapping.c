@@ -12,7 +12,8 @@
 #include <sys/stat.h>
 #include <unistd.h>
 
-enum { WORD = 8, ROW_WORDS = 32 };
+/* PIECE_ROWS: how many rows are read at once while a shape is looked for. */
+enum { WORD = 8, ROW_WORDS = 32, PIECE_ROWS = 64 };
 
 /* How many names a file may have while it is made, and the room for what makes them differ. */
 enum { NAMES = 100, NUMBERS = 40 };
@@ -140,17 +141,30 @@ uint32_t envy_mapping_open(envy_mapping *f, const char *path, const envy_setup *
 
 /* Finds the SRAM, which lies after the flash: its first words name the number of rows. So it begins at a row if they name the
    number of rows before it, and if the words of the whole file are those of that setup. */
-static uint32_t found(const uint64_t *at, size_t words, envy_setup *setup) {
+static uint32_t found(int descriptor, size_t words, envy_setup *setup) {
+    uint64_t piece[PIECE_ROWS * ROW_WORDS];
     uint32_t why = ENVY_UNFORMATTED;
-    for (size_t rows = 1; rows * ROW_WORDS < words; rows++) {
-        envy_setup told;
-        envy_sizes sizes;
-        uint32_t code = envy_sram_shape(at + rows * ROW_WORDS, words - rows * ROW_WORDS, &told);
-        if (code == ENVY_OLDER) why = code;
-        if (code != ENVY_DONE || envy_region_sizes(&told, &sizes) != ENVY_DONE || sizes.rows != rows) continue;
-        if (sizes.rows * ROW_WORDS + sizes.words + sizes.erases != words) continue;
-        *setup = told;
-        return ENVY_DONE;
+    for (size_t first = 0; first * ROW_WORDS < words; first += PIECE_ROWS) {
+        /* (read, since a file that is mapped and cut meanwhile ends the process) */
+        ssize_t got = pread(descriptor, piece, sizeof piece, (off_t)(first * ROW_WORDS * WORD));
+        if (got < 0 && errno == EINTR) {
+            first -= PIECE_ROWS;
+            continue;
+        }
+        if (got < 0) return ENVY_SYSTEM;
+        size_t there = (size_t)got / WORD;
+        for (size_t at = first ? 0 : ROW_WORDS; at < there; at += ROW_WORDS) {
+            envy_setup told;
+            envy_sizes sizes;
+            size_t rows = first + at / ROW_WORDS;
+            uint32_t code = envy_sram_shape(piece + at, there - at, &told);
+            if (code == ENVY_OLDER) why = code;
+            if (code != ENVY_DONE || envy_region_sizes(&told, &sizes) != ENVY_DONE || sizes.rows != rows) continue;
+            if (sizes.rows * ROW_WORDS + sizes.words + sizes.erases != words) continue;
+            *setup = told;
+            return ENVY_DONE;
+        }
+        if (!got) break;
     }
     return why;
 }
@@ -164,11 +178,7 @@ uint32_t envy_mapping_shape(const char *path, envy_setup *setup) {
     if (!fstat(descriptor, &about)) {
         size_t bytes = (size_t)about.st_size;
         code = ENVY_UNFORMATTED;
-        if (bytes && bytes % WORD == 0) {
-            void *at = mmap(NULL, bytes, PROT_READ, MAP_SHARED, descriptor, 0);
-            code = at == MAP_FAILED ? ENVY_SYSTEM : found(at, bytes / WORD, setup);
-            if (at != MAP_FAILED) munmap(at, bytes);
-        }
+        if (bytes && bytes % WORD == 0) code = found(descriptor, bytes / WORD, setup);
     }
     int why = errno;
     close(descriptor);
