@@ -116,6 +116,20 @@ int envy_file_error(const envy *m);
 /* How many bytes the file of a memory has that was opened by its path, or 0. */
 uint64_t envy_file_bytes(const envy *m);
 
+/* Makes a copy of a memory while it is in use: a new file at a path, with the words that are committed, of the kind of the
+   memory's file, or one that envy_open_file opens. If the setup is NULL it is that of the memory's file. The copy is there whole
+   or not at all; while it is made it has the path and ".envy-copy". The memory stays as it is.
+   ENVY_DONE; ENVY_EMPTY; ENVY_OFF; ENVY_OTHER_BOARD, the setup is NULL and there is no such file; ENVY_RANGE, the setup has fewer
+   pages than the memory; ENVY_SYSTEM, with errno, as EEXIST if there is a file; or what envy_open_file answers. */
+uint32_t envy_copy(envy *m, const char *path, const envy_setup *setup);
+
+/* Gives the file of a memory other sizes, with at least as many pages: by a copy, which takes the file's place, and in which the
+   memory is opened again. A process or a machine that stops meanwhile leaves the earlier file or the new one.
+   ENVY_DONE; ENVY_EMPTY; ENVY_OTHER_BOARD, it wasn't opened by a path, or for reading; ENVY_SLOT_OPEN; ENVY_OFF; or what
+   envy_copy answers. Refused, the memory goes on, unless its file can't be opened again: then that is answered, and the place
+   holds none. */
+uint32_t envy_grow(envy *m, const envy_setup *setup);
+
 /* The call under envy_open_file and envy_open_disk: `port` is what envy_disk_open gave for the file, and if `bytewise` isn't 0,
    the program states that the file is written byte by byte. An empty file holds no journal yet.
    ENVY_DONE; ENVY_EMPTY; ENVY_OPEN; ENVY_POLICY, ENVY_SETUP_*; ENVY_NO_JOURNAL; ENVY_OTHER_JOURNAL; ENVY_DAMAGED;

@@ -1,24 +1,14 @@
 /* Memories of envy.h in files: opened by their paths, or over calls of the program's own, and ended. */
 #define _GNU_SOURCE
-#include "envy_mapping.h"
-#include "envy_served.h"
+#include "envy_held.h"
 #include <errno.h>
 #include <stdlib.h>
 #include <sys/stat.h>
 
-/* What is known of the file of a memory. While the file is opened and closed it has the place of the handle. */
-typedef struct held {
-    enum { SERVED, MAPPED, DISK } kind;
-    union {
-        envy_served served;
-        envy_mapping mapping;
-        int32_t port; /* of a disk of the program's */
-    } of;
-} held;
-
 /* Frees what was known of a file. What the system refused before stays in errno. */
-static void forgotten(held *f) {
+static void forgotten(envy_held *f) {
     int why = errno;
+    if (f) free(f->path);
     free(f);
     errno = why;
 }
@@ -30,9 +20,13 @@ static uint32_t placed(envy *m) {
 }
 
 /* Notes what is known of a file that was opened, or frees it if it was refused. */
-static uint32_t noted(envy *m, held *f, uint32_t code) {
-    if (code == ENVY_DONE) m->file = f;
-    else forgotten(f);
+static uint32_t noted(envy *m, envy_held *f, const char *path, uint32_t code) {
+    if (code == ENVY_DONE) {
+        f->path = path ? realpath(path, NULL) : NULL;
+        m->file = f;
+    } else {
+        forgotten(f);
+    }
     return code;
 }
 
@@ -76,11 +70,11 @@ uint32_t envy_open_file(envy *m, const char *path, const envy_setup *setup, uint
     uint32_t code = placed(m);
     if (code == ENVY_DONE) code = chosen(path, setup, flags, envy_served_shape, &sizes);
     if (code != ENVY_DONE) return code;
-    held *f = malloc(sizeof *f);
+    envy_held *f = malloc(sizeof *f);
     if (!f) return ENVY_NO_MEMORY;
-    *f = (held){.kind = SERVED, .of.served = ENVY_SERVED_INIT};
+    *f = (envy_held){.kind = SERVED, .flags = flags, .setup = sizes, .of.served = ENVY_SERVED_INIT};
     f->of.served.memory.at = m->at;
-    code = noted(m, f, envy_served_open(&f->of.served, path, &sizes, flags));
+    code = noted(m, f, path, envy_served_open(&f->of.served, path, &sizes, flags));
     return code == ENVY_DONE ? compacted(m, flags) : code;
 }
 
@@ -89,33 +83,33 @@ uint32_t envy_open_mapped(envy *m, const char *path, const envy_setup *setup, ui
     uint32_t code = placed(m);
     if (code == ENVY_DONE) code = chosen(path, setup, flags, envy_mapping_shape, &sizes);
     if (code != ENVY_DONE) return code;
-    held *f = malloc(sizeof *f);
+    envy_held *f = malloc(sizeof *f);
     if (!f) return ENVY_NO_MEMORY;
-    *f = (held){.kind = MAPPED, .of.mapping = ENVY_MAPPING_INIT};
+    *f = (envy_held){.kind = MAPPED, .flags = flags, .setup = sizes, .of.mapping = ENVY_MAPPING_INIT};
     f->of.mapping.memory.at = m->at;
-    return noted(m, f, envy_mapping_open(&f->of.mapping, path, &sizes, flags));
+    return noted(m, f, path, envy_mapping_open(&f->of.mapping, path, &sizes, flags));
 }
 
 uint32_t envy_open_disk(envy *m, const envy_setup *setup, const uint8_t *file, size_t n, const envy_disk *disk, uint32_t flags) {
     uint32_t code = placed(m);
     if (code != ENVY_DONE) return code;
-    held *f = malloc(sizeof *f);
+    envy_held *f = malloc(sizeof *f);
     if (!f) return ENVY_NO_MEMORY;
-    *f = (held){.kind = DISK, .of.port = envy_disk_open(disk)};
+    *f = (envy_held){.kind = DISK, .of.port = envy_disk_open(disk)};
     code = f->of.port < 0 ? (uint32_t)ENVY_TOO_MANY : envy_open_port(m, setup, file, n, f->of.port, flags & ENVY_BYTEWISE);
     if (code != ENVY_DONE && f->of.port >= 0) envy_disk_close(f->of.port);
-    return noted(m, f, code);
+    return noted(m, f, NULL, code);
 }
 
 uint32_t envy_sync(envy *m) {
-    held *f = m->file;
+    envy_held *f = m->file;
     if (!m->at) return ENVY_EMPTY;
     return f && f->kind == MAPPED ? envy_mapping_sync(&f->of.mapping) : envy_proved_sync(m);
 }
 
 /* Ends the memory, and gives up what its file took. */
 static uint32_t ended(envy *m, int is_kept) {
-    held *f = m->file;
+    envy_held *f = m->file;
     if (!f || f->kind == DISK) {
         if (m->at) envy_proved_close(m);
         if (f) envy_disk_close(f->of.port);
@@ -140,13 +134,13 @@ uint32_t envy_leave(envy *m) {
 }
 
 int envy_file_error(const envy *m) {
-    const held *f = m->file;
+    const envy_held *f = m->file;
     return f && f->kind == SERVED ? envy_served_error(&f->of.served) : 0;
 }
 
 /* The descriptor of the file of a memory, or -1. */
 static int descriptor_of(const envy *m) {
-    const held *f = m->file;
+    const envy_held *f = m->file;
     if (!f || f->kind == DISK) return -1;
     return f->kind == SERVED ? f->of.served.descriptor : f->of.mapping.descriptor;
 }

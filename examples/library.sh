@@ -88,6 +88,9 @@ out/one "$work/one"
 ASAN_OPTIONS=detect_leaks=0 out/one-asan "$work/one-asan" # a handle's place lasts as long as the process
 echo "library: the same work is answered the same over files, regions and a simulation"
 out/old_names "$work/old"
+mkdir "$work/copies" "$work/copies-asan" "$work/arm-copies"
+out/copies "$work/copies"
+ASAN_OPTIONS=detect_leaks=0 out/copies-asan "$work/copies-asan"
 
 # 10,000 commands that are drawn, some loads made looks, and a failure of power before every thousandth
 ../envy gen --start 20 --lines 10000 |
@@ -187,6 +190,7 @@ emulated() { program=$1 && shift && qemu-aarch64 "out/$arm/$program" "$@"; }
 ../envy run <"$work/trace" >"$work/wanted"
 mkdir "$work/arm-one"
 emulated one "$work/arm-one"
+emulated copies "$work/arm-copies"
 emulated replay "$work/arm.file" <"$work/trace" >"$work/arm.replies"
 cmp "$work/wanted" "$work/arm.replies"
 emulated refused "$work/arm-refused.file"

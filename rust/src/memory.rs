@@ -1,6 +1,6 @@
 //! A memory, and its words.
 
-use crate::counts::{counts_of, did_of, Counts, Did, Worn};
+use crate::counts::{counts_of, did_of, stats_of, Counts, Did, Stats, Worn};
 use crate::error::{Error, Stopped};
 use crate::regions::Regions;
 use crate::sys;
@@ -212,6 +212,18 @@ impl Memory {
         // SAFETY: the memory is open, and the numbers are this call's.
         unsafe { sys::envy_worn(self.handle(), &mut worn.retired, &mut worn.left) };
         worn
+    }
+
+    /// What the memory did and holds, in a time that grows with its rows.
+    ///
+    /// # Errors
+    ///
+    /// `Off`.
+    pub fn stats(&self) -> Result<Stats, Error> {
+        let mut found = sys::Stats::default();
+        // SAFETY: the memory is open, and the record is this call's.
+        self.check(unsafe { sys::envy_stat(self.handle(), &mut found) })?;
+        Ok(stats_of(found))
     }
 
     /// Brings all that was done to the disk. Over regions and a board that can be made to fail nothing is to be brought.

@@ -31,6 +31,20 @@ pub struct Counts {
     pub swaps: u64,
 }
 
+/// What a memory did and holds.
+#[repr(C)]
+#[derive(Default)]
+pub struct Stats {
+    pub counts: Counts,
+    pub rows: [u64; 4],
+    pub segments: u32,
+    pub retired: u32,
+    pub reserves: u32,
+    pub least_wear: u64,
+    pub most_wear: u64,
+    pub file_bytes: u64,
+}
+
 /// A pair of a map.
 #[repr(C)]
 #[derive(Clone, Copy, Debug, Default, PartialEq, Eq)]
@@ -135,6 +149,9 @@ extern "C" {
     pub fn envy_setup_for(words: u64, owned_pages: u32, setup: *mut Setup) -> u32;
     pub fn envy_close(m: *mut Handle) -> u32;
     pub fn envy_leave(m: *mut Handle) -> u32;
+    pub fn envy_copy(m: *mut Handle, path: *const c_char, setup: *const Setup) -> u32;
+    pub fn envy_grow(m: *mut Handle, setup: *const Setup) -> u32;
+    pub fn envy_stat(m: *mut Handle, stats: *mut Stats) -> u32;
     pub fn envy_open_file(m: *mut Handle, path: *const c_char, setup: *const Setup, flags: u32) -> u32;
     pub fn envy_open_mapped(m: *mut Handle, path: *const c_char, setup: *const Setup, flags: u32) -> u32;
     pub fn envy_file_shape(path: *const c_char, setup: *mut Setup) -> u32;
