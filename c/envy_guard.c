@@ -3,7 +3,7 @@
    NULL. In the archive these have other names:
 
        objcopy --redefine-sym envy_NAME=envy_proved_NAME LIBRARY.a */
-#include "envy.h"
+#include "envy_place.h"
 
 /* A place that lasts as long as the call, for what isn't asked for. */
 #define OR_PLACE(at, type) ((at) ? (at) : &(type){0})
@@ -21,14 +21,24 @@
         return is_asked ? envy_proved_##name arguments : name##_unasked arguments;                                     \
     }
 
-CALL(open_port, (envy *m, const envy_setup *setup, const uint8_t *file, size_t n, int32_t port, uint32_t bytewise),
+/* A call that opens a memory: it makes a place for a handle that has none, and takes it back if it is refused. */
+#define OPENING(name, parameters, arguments)                                                                           \
+    uint32_t envy_proved_##name parameters;                                                                            \
+    uint32_t envy_##name parameters {                                                                                  \
+        uint32_t code = envy_place_take(m);                                                                            \
+        if (code == ENVY_DONE) code = envy_proved_##name arguments;                                                    \
+        if (code != ENVY_DONE && code != ENVY_OPEN) envy_place_give(m);                                                \
+        return code;                                                                                                   \
+    }
+
+OPENING(open_port, (envy *m, const envy_setup *setup, const uint8_t *file, size_t n, int32_t port, uint32_t bytewise),
      (m, setup, file, n, port, bytewise))
-CALL(format_regions, (envy *m, const envy_setup *setup, envy_rows flash, envy_words sram, envy_words erases),
+OPENING(format_regions, (envy *m, const envy_setup *setup, envy_rows flash, envy_words sram, envy_words erases),
      (m, setup, flash, sram, erases))
-CALL(open_regions, (envy *m, const envy_setup *setup, envy_rows flash, envy_words sram, envy_words erases),
+OPENING(open_regions, (envy *m, const envy_setup *setup, envy_rows flash, envy_words sram, envy_words erases),
      (m, setup, flash, sram, erases))
-CALL(open_sim, (envy *m, const envy_setup *setup, uint32_t lives), (m, setup, lives))
-CALL(restore, (envy *m, const envy_setup *setup, uint32_t lives, const uint8_t *image, size_t n), (m, setup, lives, image, n))
+OPENING(open_sim, (envy *m, const envy_setup *setup, uint32_t lives), (m, setup, lives))
+OPENING(restore, (envy *m, const envy_setup *setup, uint32_t lives, const uint8_t *image, size_t n), (m, setup, lives, image, n))
 CALL(save, (envy *m, uint8_t *image, size_t n), (m, image, n))
 CALL(compact, (envy *m), (m))
 CALL(powered, (envy *m), (m))

@@ -115,7 +115,7 @@ impl Memory {
 
     fn opened(over: Over, path: &Path, setup: Option<&Setup>, how: Open, open: Opening) -> Result<Memory, Error> {
         let path = c_path(path)?;
-        let memory = Memory::empty(over).map_err(|(error, _)| error)?;
+        let memory = Memory::empty(over);
         let numbers = setup.map(Setup::numbers);
         let setup = numbers.as_ref().map_or(ptr::null(), |it| it as *const _);
         // SAFETY: the handle is this memory's, and holds none; the others are pointers to a string and a setup of this call's,

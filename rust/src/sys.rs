@@ -158,7 +158,6 @@ extern "C" {
     pub fn envy_file_error(m: *const Handle) -> c_int;
     pub fn envy_sync(m: *mut Handle) -> u32;
     pub fn envy_compact(m: *mut Handle) -> u32;
-    pub fn envy_new(m: *mut Handle) -> u32;
     pub fn envy_region_sizes(setup: *const Setup, sizes: *mut Sizes) -> u32;
     pub fn envy_sram_shape(sram: *const u64, n: usize, setup: *mut Setup) -> u32;
     pub fn envy_format_regions(m: *mut Handle, setup: *const Setup, flash: Rows, sram: Words, erases: Words) -> u32;
