@@ -22,9 +22,7 @@
    answers ENVY_OTHER_BOARD.
 
    What the program promises, and nothing checks:
-   - It makes a handle with ENVY_INIT and calls envy_new on it at most once. Until that answered ENVY_DONE every other call
-     answers ENVY_EMPTY, except envy_open_file, envy_open_mapped and envy_open_disk, which call it by themselves. It neither
-     copies nor changes a handle.
+   - It makes a handle with ENVY_INIT, and neither copies nor changes it.
    - One call at a time uses a handle. It may use it from any thread if it orders the calls itself. A process that was forked
      off while a mapped file was open makes no call of it but envy_close.
    - Every pointer is to memory that is there, aligned, of the size that is said, and in no two arguments at once. None is
@@ -48,21 +46,20 @@
 extern "C" {
 #endif
 
-/* A place for a memory. */
+/* A handle of a memory. */
 typedef struct envy {
-    void *at;
+    void *at;   /* its place, or NULL */
     void *file; /* what is known of a file that was opened by its path, else NULL */
 } envy;
 #define ENVY_INIT {0, 0}
 
-/* Makes a place that holds no memory. ENVY_DONE or ENVY_NO_MEMORY. The place, a few hundred bytes, stays until the process
-   ends, and serves for any number of memories, one after another, of any kind. */
+/* Makes the place of a handle, which each opening does by itself. ENVY_DONE or ENVY_NO_MEMORY. */
 uint32_t envy_new(envy *m);
 
-/* Ends the memory and frees what it took from the heap. Of a file that was opened by its path it syncs before, and gives up
-   the file and its lock: ENVY_OFF or ENVY_SYSTEM, with errno, if that sync failed. Of a port it makes no call of the disk,
-   so what was done since the last sync is lost. Regions are the program's again, and hold the memory still. Else, and on an
-   empty place, ENVY_DONE. The place may be opened again. */
+/* Ends the memory and frees what it took; the place of the handle, a few hundred bytes, serves the next handle of the process.
+   Of a file that was opened by its path it syncs before, and gives up the file and its lock: ENVY_OFF or ENVY_SYSTEM, with
+   errno, if that sync failed. Of a port it makes no call of the disk, so what was done since the last sync is lost. Regions are
+   the program's again, and hold the memory still. Else, and on an empty handle, ENVY_DONE. The handle may be opened again. */
 uint32_t envy_close(envy *m);
 
 /* The same without a sync: a file opens as of the last one. Of a mapped file it is envy_close. */
@@ -88,7 +85,7 @@ enum envy_open_flag {
    Under ENVY_READING loads and looks answer as of the last sync. What is stored is seen until the memory is closed. The first
    call that would write to the file, as envy_sync, is ENVY_OFF with EROFS at envy_file_error.
    ENVY_DONE; ENVY_SYSTEM, with errno, as ENOENT if there is no file; ENVY_LOCKED; ENVY_TOO_MANY; or what envy_new,
-   envy_file_shape and envy_open_port answer. Refused, the place holds none; an empty file that was made stays, unless no second
+   envy_file_shape and envy_open_port answer. Refused, the handle holds none; an empty file that was made stays, unless no second
    file can be made. */
 uint32_t envy_open_file(envy *m, const char *path, const envy_setup *setup, uint32_t flags);
 
@@ -98,7 +95,7 @@ uint32_t envy_open_file(envy *m, const char *path, const envy_setup *setup, uint
    at. A new file is there formatted or not at all. If the setup is NULL or one of zeros, the sizes are those of the file.
    Descriptors and access rights are as of envy_open_file.
    ENVY_DONE; ENVY_SYSTEM, with errno; ENVY_LOCKED; or what envy_new, envy_file_shape, envy_format_regions and
-   envy_open_regions answer. Refused, the file is as before, and the place holds none. */
+   envy_open_regions answer. Refused, the file is as before, and the handle holds none. */
 uint32_t envy_open_mapped(envy *m, const char *path, const envy_setup *setup, uint32_t flags);
 
 /* Opens the memory in a file that the program serves by six calls of its own, or makes one of zeros in a file without bytes.
@@ -106,7 +103,7 @@ uint32_t envy_open_mapped(envy *m, const char *path, const envy_setup *setup, ui
    posix_fadvise with POSIX_FADV_DONTNEED), and then read it whole: `file` are its n bytes, which don't change while the call
    lasts. The system reports a failed write once, and takes what it holds for written then; so what it holds is dropped. Of the
    flags ENVY_BYTEWISE is looked at. The disk stays where it is until envy_close, which makes no call of it.
-   ENVY_DONE; ENVY_TOO_MANY; or what envy_new and envy_open_port answer. Refused, the place holds none. */
+   ENVY_DONE; ENVY_TOO_MANY; or what envy_new and envy_open_port answer. Refused, the handle holds none. */
 uint32_t envy_open_disk(envy *m, const envy_setup *setup, const uint8_t *file, size_t n, const envy_disk *disk, uint32_t flags);
 
 /* Writes the setup that the file of either kind at a path was made with. Policy, part, limit and mark become ENVY_GREEDY, 2,
@@ -122,10 +119,24 @@ int envy_file_error(const envy *m);
 /* How many bytes the file of a memory has that was opened by its path, or 0. */
 uint64_t envy_file_bytes(const envy *m);
 
+/* Makes a copy of a memory while it is in use: a new file at a path, with the words that are committed, of the kind of the
+   memory's file, or one that envy_open_file opens. If the setup is NULL it is that of the memory's file. The copy is there whole
+   or not at all; while it is made it has the path and ".envy-copy". The memory stays as it is.
+   ENVY_DONE; ENVY_EMPTY; ENVY_OFF; ENVY_OTHER_BOARD, the setup is NULL and there is no such file; ENVY_RANGE, the setup has fewer
+   pages than the memory; ENVY_SYSTEM, with errno, as EEXIST if there is a file; or what envy_open_file answers. */
+uint32_t envy_copy(envy *m, const char *path, const envy_setup *setup);
+
+/* Gives the file of a memory other sizes, with at least as many pages: by a copy, which takes the file's place, and in which the
+   memory is opened again. A process or a machine that stops meanwhile leaves the earlier file or the new one.
+   ENVY_DONE; ENVY_EMPTY; ENVY_OTHER_BOARD, it wasn't opened by a path, or for reading; ENVY_SLOT_OPEN; ENVY_OFF; or what
+   envy_copy answers. Refused, the memory goes on, unless its file can't be opened again: then that is answered, and the handle
+   holds none. */
+uint32_t envy_grow(envy *m, const envy_setup *setup);
+
 /* The call under envy_open_file and envy_open_disk: `port` is what envy_disk_open gave for the file, and if `bytewise` isn't 0,
    the program states that the file is written byte by byte. An empty file holds no journal yet.
-   ENVY_DONE; ENVY_EMPTY; ENVY_OPEN; ENVY_POLICY, ENVY_SETUP_*; ENVY_NO_JOURNAL; ENVY_OTHER_JOURNAL; ENVY_DAMAGED;
-   ENVY_OTHER_SHAPE; ENVY_NO_MEMORY; ENVY_OFF if the file failed. Refused, the place is as before. */
+   ENVY_DONE; ENVY_OPEN; ENVY_POLICY, ENVY_SETUP_*; ENVY_NO_JOURNAL; ENVY_OTHER_JOURNAL; ENVY_DAMAGED;
+   ENVY_OTHER_SHAPE; ENVY_NO_MEMORY; ENVY_OFF if the file failed. Refused, the handle is as before. */
 uint32_t envy_open_port(envy *m, const envy_setup *setup, const uint8_t *file, size_t n, int32_t port, uint32_t bytewise);
 
 /* How many of the n bytes of a file opening it cuts off, if they hold what reads as a sync; else 0. */
@@ -158,8 +169,8 @@ uint32_t envy_region_sizes(const envy_setup *setup, envy_sizes *sizes);
 uint32_t envy_sram_shape(const uint64_t *sram, size_t n, envy_setup *setup);
 
 /* Makes a memory of zeros over the regions, whatever they hold, and erases each segment once.
-   ENVY_DONE; ENVY_EMPTY; ENVY_OPEN; ENVY_POLICY, ENVY_SETUP_*; ENVY_FLASH_SIZE, ENVY_SRAM_SIZE, ENVY_ERASES_SIZE;
-   ENVY_NO_MEMORY. Refused, the place and the regions are as before. */
+   ENVY_DONE; ENVY_OPEN; ENVY_POLICY, ENVY_SETUP_*; ENVY_FLASH_SIZE, ENVY_SRAM_SIZE, ENVY_ERASES_SIZE;
+   ENVY_NO_MEMORY. Refused, the handle and the regions are as before. */
 uint32_t envy_format_regions(envy *m, const envy_setup *setup, envy_rows flash, envy_words sram, envy_words erases);
 
 /* Opens the memory that the regions hold, once it was found to be sound. Transactions that were open are undone. The answers
@@ -168,8 +179,8 @@ uint32_t envy_open_regions(envy *m, const envy_setup *setup, envy_rows flash, en
 
 /* --- A board that can be made to fail --- */
 
-/* Makes a memory of zeros over a new board, whose power can return `lives` times. ENVY_DONE; ENVY_EMPTY; ENVY_OPEN;
-   ENVY_POLICY, ENVY_SETUP_*; ENVY_NO_MEMORY. Refused, the place is as before. */
+/* Makes a memory of zeros over a new board, whose power can return `lives` times. ENVY_DONE; ENVY_OPEN;
+   ENVY_POLICY, ENVY_SETUP_*; ENVY_NO_MEMORY. Refused, the handle is as before. */
 uint32_t envy_open_sim(envy *m, const envy_setup *setup, uint32_t lives);
 
 /* Opens the memory that an image is, over such a board. The image is compared and audited, and isn't changed.

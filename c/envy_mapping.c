@@ -102,7 +102,7 @@ static uint32_t made(envy_mapping *f, const char *path, const envy_setup *setup,
         /* so that no store finds the disk full */
         int why = posix_fallocate(f->descriptor, 0, bytes);
         if (why) errno = why;
-        else code = taken(f, setup, sizes, envy_format_regions);
+        else code = taken(f, setup, sizes, envy_proved_format_regions);
         if (code == ENVY_DONE && (msync(f->at, f->bytes, MS_SYNC) || link(beside, path))) code = ENVY_SYSTEM;
         why = errno;
         unlink(beside);
@@ -115,7 +115,7 @@ static uint32_t made(envy_mapping *f, const char *path, const envy_setup *setup,
 /* Opens the file that is there. */
 static uint32_t found_there(envy_mapping *f, const char *path, const envy_setup *setup, const envy_sizes *sizes) {
     f->descriptor = above_standard_streams(open(path, O_RDWR | O_CLOEXEC));
-    return f->descriptor < 0 ? ENVY_SYSTEM : taken(f, setup, sizes, envy_open_regions);
+    return f->descriptor < 0 ? ENVY_SYSTEM : taken(f, setup, sizes, envy_proved_open_regions);
 }
 
 uint32_t envy_mapping_open(envy_mapping *f, const char *path, const envy_setup *setup, uint32_t flags) {

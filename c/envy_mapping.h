@@ -37,7 +37,9 @@ uint32_t envy_mapping_sync(envy_mapping *f);
    ENVY_DONE, or ENVY_SYSTEM if it wasn't all written through. On a place without a file it does nothing. */
 uint32_t envy_mapping_close(envy_mapping *f);
 
-/* Ends the memory alone, without its file. */
+/* The calls of the memory alone, without its file, and on a handle that has a place. */
+uint32_t envy_proved_format_regions(envy *m, const envy_setup *setup, envy_rows flash, envy_words sram, envy_words erases);
+uint32_t envy_proved_open_regions(envy *m, const envy_setup *setup, envy_rows flash, envy_words sram, envy_words erases);
 void envy_proved_close(envy *m);
 
 #ifdef __cplusplus

@@ -1,38 +1,39 @@
 /* Memories of envy.h in files: opened by their paths, or over calls of the program's own, and ended. */
 #define _GNU_SOURCE
-#include "envy_mapping.h"
-#include "envy_served.h"
+#include "envy_held.h"
+#include "envy_place.h"
 #include <errno.h>
 #include <stdlib.h>
 #include <sys/stat.h>
 
-/* What is known of the file of a memory. While the file is opened and closed it has the place of the handle. */
-typedef struct held {
-    enum { SERVED, MAPPED, DISK } kind;
-    union {
-        envy_served served;
-        envy_mapping mapping;
-        int32_t port; /* of a disk of the program's */
-    } of;
-} held;
-
 /* Frees what was known of a file. What the system refused before stays in errno. */
-static void forgotten(held *f) {
+static void forgotten(envy_held *f) {
     int why = errno;
+    if (f) free(f->path);
     free(f);
     errno = why;
 }
 
-/* Makes the place of a handle if it has none. ENVY_OPEN if it holds a memory. */
-static uint32_t placed(envy *m) {
-    uint32_t code = m->at ? ENVY_DONE : envy_new(m);
-    return code == ENVY_DONE && envy_powered(m) != ENVY_EMPTY ? ENVY_OPEN : code;
+/* Makes room for what is known of the file of a handle that holds no memory. */
+static uint32_t roomed(envy *m, envy_held **f) {
+    if (m->at && envy_powered(m) != ENVY_EMPTY) return ENVY_OPEN;
+    *f = malloc(sizeof **f);
+    uint32_t code = *f ? envy_place_take(m) : (uint32_t)ENVY_NO_MEMORY;
+    if (code != ENVY_DONE) free(*f);
+    return code;
 }
 
-/* Notes what is known of a file that was opened, or frees it if it was refused. */
-static uint32_t noted(envy *m, held *f, uint32_t code) {
-    if (code == ENVY_DONE) m->file = f;
-    else forgotten(f);
+/* Notes what is known of a file that was opened, or frees it, and the place, if it was refused. */
+static uint32_t noted(envy *m, envy_held *f, const char *path, uint32_t code) {
+    if (code == ENVY_DONE) {
+        f->path = path ? realpath(path, NULL) : NULL;
+        m->file = f;
+    } else {
+        forgotten(f);
+        int why = errno;
+        envy_place_give(m);
+        errno = why;
+    }
     return code;
 }
 
@@ -78,57 +79,59 @@ static uint32_t compacted(envy *m, uint32_t flags) {
 }
 
 uint32_t envy_open_file(envy *m, const char *path, const envy_setup *setup, uint32_t flags) {
+    envy_held *f;
     envy_setup sizes;
-    uint32_t code = placed(m);
-    if (code == ENVY_DONE) code = chosen(path, setup, flags, envy_served_shape, &sizes);
+    uint32_t code = roomed(m, &f);
     if (code != ENVY_DONE) return code;
-    held *f = malloc(sizeof *f);
-    if (!f) return ENVY_NO_MEMORY;
-    *f = (held){.kind = SERVED, .of.served = ENVY_SERVED_INIT};
+    *f = (envy_held){.kind = SERVED, .flags = flags, .of.served = ENVY_SERVED_INIT};
     f->of.served.memory.at = m->at;
-    code = noted(m, f, envy_served_open(&f->of.served, path, &sizes, flags));
+    code = chosen(path, setup, flags, envy_served_shape, &sizes);
+    f->setup = sizes;
+    if (code == ENVY_DONE) code = envy_served_open(&f->of.served, path, &sizes, flags);
+    code = noted(m, f, path, code);
     return code == ENVY_DONE ? compacted(m, flags) : code;
 }
 
 uint32_t envy_open_mapped(envy *m, const char *path, const envy_setup *setup, uint32_t flags) {
+    envy_held *f;
     envy_setup sizes;
-    uint32_t code = placed(m);
-    if (code == ENVY_DONE) code = chosen(path, setup, flags, envy_mapping_shape, &sizes);
+    uint32_t code = roomed(m, &f);
     if (code != ENVY_DONE) return code;
-    held *f = malloc(sizeof *f);
-    if (!f) return ENVY_NO_MEMORY;
-    *f = (held){.kind = MAPPED, .of.mapping = ENVY_MAPPING_INIT};
+    *f = (envy_held){.kind = MAPPED, .flags = flags, .of.mapping = ENVY_MAPPING_INIT};
     f->of.mapping.memory.at = m->at;
-    return noted(m, f, envy_mapping_open(&f->of.mapping, path, &sizes, flags));
+    code = chosen(path, setup, flags, envy_mapping_shape, &sizes);
+    f->setup = sizes;
+    if (code == ENVY_DONE) code = envy_mapping_open(&f->of.mapping, path, &sizes, flags);
+    return noted(m, f, path, code);
 }
 
 uint32_t envy_open_disk(envy *m, const envy_setup *setup, const uint8_t *file, size_t n, const envy_disk *disk, uint32_t flags) {
-    uint32_t code = placed(m);
+    envy_held *f;
+    uint32_t code = roomed(m, &f);
     if (code != ENVY_DONE) return code;
-    held *f = malloc(sizeof *f);
-    if (!f) return ENVY_NO_MEMORY;
-    *f = (held){.kind = DISK, .of.port = envy_disk_open(disk)};
-    code = f->of.port < 0 ? (uint32_t)ENVY_TOO_MANY : envy_open_port(m, setup, file, n, f->of.port, flags & ENVY_BYTEWISE);
-    if (code != ENVY_DONE && f->of.port >= 0) envy_disk_close(f->of.port);
-    return noted(m, f, code);
+    int32_t port = envy_disk_open(disk);
+    *f = (envy_held){.kind = DISK, .of.port = port};
+    code = port < 0 ? (uint32_t)ENVY_TOO_MANY : envy_open_port(m, setup, file, n, port, flags & ENVY_BYTEWISE);
+    if (code != ENVY_DONE && port >= 0) envy_disk_close(port);
+    return noted(m, f, NULL, code);
 }
 
 uint32_t envy_sync(envy *m) {
-    held *f = m->file;
+    envy_held *f = m->file;
     if (!m->at) return ENVY_EMPTY;
     return f && f->kind == MAPPED ? envy_mapping_sync(&f->of.mapping) : envy_proved_sync(m);
 }
 
 /* (a mapped file keeps its size, so a compaction of it is a sync) */
 uint32_t envy_compact(envy *m) {
-    held *f = m->file;
+    const envy_held *f = m->file;
     if (!m->at) return ENVY_EMPTY;
     return f && f->kind == MAPPED ? envy_mapping_sync(&f->of.mapping) : envy_proved_compact(m);
 }
 
 /* Ends the memory, and gives up what its file took. */
 static uint32_t ended(envy *m, int is_kept) {
-    held *f = m->file;
+    envy_held *f = m->file;
     if (!f || f->kind == DISK) {
         if (m->at) envy_proved_close(m);
         if (f) envy_disk_close(f->of.port);
@@ -138,28 +141,29 @@ static uint32_t ended(envy *m, int is_kept) {
     return is_kept ? envy_served_close(&f->of.served) : envy_served_leave(&f->of.served);
 }
 
-uint32_t envy_close(envy *m) {
-    uint32_t code = ended(m, 1);
+/* Ends the memory, and gives back the place of the handle. What the system refused stays in errno. */
+static uint32_t closed(envy *m, int is_kept) {
+    uint32_t code = ended(m, is_kept);
+    int why = errno;
     forgotten(m->file);
     m->file = NULL;
+    envy_place_give(m);
+    errno = why;
     return code;
 }
 
-uint32_t envy_leave(envy *m) {
-    uint32_t code = ended(m, 0);
-    forgotten(m->file);
-    m->file = NULL;
-    return code;
-}
+uint32_t envy_close(envy *m) { return closed(m, 1); }
+
+uint32_t envy_leave(envy *m) { return closed(m, 0); }
 
 int envy_file_error(const envy *m) {
-    const held *f = m->file;
+    const envy_held *f = m->file;
     return f && f->kind == SERVED ? envy_served_error(&f->of.served) : 0;
 }
 
 /* The descriptor of the file of a memory, or -1. */
 static int descriptor_of(const envy *m) {
-    const held *f = m->file;
+    const envy_held *f = m->file;
     if (!f || f->kind == DISK) return -1;
     return f->kind == SERVED ? f->of.served.descriptor : f->of.mapping.descriptor;
 }

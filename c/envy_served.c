@@ -111,7 +111,7 @@ static uint32_t taken(envy_served *f, const envy_setup *setup, uint32_t flags) {
     if (!bytes) return errno == ENOMEM ? ENVY_NO_MEMORY : ENVY_SYSTEM;
     f->found = bytes;
     f->found_n = n;
-    uint32_t code = envy_open_port(&f->memory, setup, bytes, n, f->port, flags & ENVY_BYTEWISE);
+    uint32_t code = envy_proved_open_port(&f->memory, setup, bytes, n, f->port, flags & ENVY_BYTEWISE);
     f->found = NULL;
     /* (of a file that is made the second file's failure is told as that of the file) */
     if (code == ENVY_OFF && !f->why) envy_host_failed(f);

@@ -22,30 +22,30 @@ void batch_forget(bytes *b) {
 }
 
 #ifdef ENVY_CLIENT_MAPPED
-static uint32_t begin(bytes *b) { return envy_begin(b->memory, &b->slot); }
-static uint32_t commit(bytes *b) { return envy_commit(b->memory, b->slot); }
+static uint32_t begin(bytes *b) { return envy_begin(&b->memory, &b->slot); }
+static uint32_t commit(bytes *b) { return envy_commit(&b->memory, b->slot); }
 
 static uint32_t undo(bytes *b) {
     known_forget_all(b->known);
-    return envy_abort(b->memory, b->slot);
+    return envy_abort(&b->memory, b->slot);
 }
 
 static uint32_t put_in_batch(bytes *b, uint32_t address, const uint64_t *words, const uint64_t *old, size_t n) {
     size_t done;
     uint32_t holder;
     (void)old;
-    return envy_write(b->memory, b->slot, address, words, n, &done, &holder);
+    return envy_write(&b->memory, b->slot, address, words, n, &done, &holder);
 }
 #endif
 
 static uint32_t put_alone(bytes *b, uint32_t address, const uint64_t *words, size_t n) {
     size_t done;
     uint32_t holder;
-    return envy_store_run(b->memory, address, words, n, &done, &holder);
+    return envy_store_run(&b->memory, address, words, n, &done, &holder);
 }
 
 #ifndef ENVY_CLIENT_MAPPED
-static uint32_t begin(bytes *b) { return envy_powered(b->memory); }
+static uint32_t begin(bytes *b) { return envy_powered(&b->memory); }
 
 static uint32_t commit(bytes *b) {
     batch_forget(b);

@@ -64,34 +64,10 @@ static uint32_t shape_of(const char *path, envy_setup *setup) {
 static uint32_t open_file(bytes *b, const char *path, int bytewise) {
 #ifdef ENVY_CLIENT_MAPPED
     (void)bytewise;
-    return envy_open_mapped(b->memory, path, &b->setup, ENVY_CREATE);
+    return envy_open_mapped(&b->memory, path, &b->setup, ENVY_CREATE);
 #else
-    return envy_open_file(b->memory, path, &b->setup, ENVY_CREATE | (bytewise ? ENVY_BYTEWISE : 0));
+    return envy_open_file(&b->memory, path, &b->setup, ENVY_CREATE | (bytewise ? ENVY_BYTEWISE : 0));
 #endif
-}
-
-/* Handles of closed files. A handle's place in the library stays until the process ends, so it serves again. */
-typedef struct place {
-    envy memory; /* first, so that a memory's place is known */
-    struct place *next;
-} place;
-static place *spare;
-
-static envy *take_place(void) {
-    place *p = spare;
-    if (p) {
-        spare = p->next;
-        return &p->memory;
-    }
-    if (!(p = malloc(sizeof *p))) return NULL;
-    p->memory = (envy)ENVY_INIT;
-    return &p->memory;
-}
-
-static void give_place(envy *memory) {
-    place *p = (place *)memory;
-    p->next = spare;
-    spare = p;
 }
 
 /* Whether all words of the array are zeros. */
@@ -101,7 +77,7 @@ static uint32_t is_blank(bytes *b, int *blank) {
     *blank = 1;
     for (uint64_t a = 0; a < all && *blank; a += PIECE_WORDS) {
         size_t n = all - a < PIECE_WORDS ? (size_t)(all - a) : PIECE_WORDS;
-        uint32_t code = envy_read(b->memory, (uint32_t)a, words, n);
+        uint32_t code = envy_read(&b->memory, (uint32_t)a, words, n);
         if (code) return code;
         *blank = !memcmp(words, zeros, n * WORD_BYTES);
     }
@@ -113,14 +89,14 @@ static uint32_t claim(bytes *b, uint64_t kind) {
     uint64_t header[HEADER_WORDS];
     uint32_t holder;
     int blank;
-    uint32_t code = envy_read(b->memory, 0, header, HEADER_WORDS);
+    uint32_t code = envy_read(&b->memory, 0, header, HEADER_WORDS);
     if (code) return code;
     b->length = header[LENGTH_WORD];
     if (header[KIND_WORD] == kind) return b->length <= b->room ? ENVY_DONE : (uint32_t)BYTES_OTHER_KIND;
     if (header[KIND_WORD]) return BYTES_OTHER_KIND;
     if ((code = is_blank(b, &blank))) return code;
     if (!blank) return BYTES_OTHER_KIND;
-    code = envy_store(b->memory, KIND_WORD, kind, &holder);
+    code = envy_store(&b->memory, KIND_WORD, kind, &holder);
     return code ? code : bytes_sync(b);
 }
 
@@ -130,12 +106,9 @@ uint32_t bytes_open(bytes *b, const char *path, uint64_t kind, const bytes_optio
     int is_old = !stat(path, &found) && found.st_size;
     uint32_t code = is_old ? shape_of(path, &b->setup) : setup_for(options, &b->setup);
     if (code) return code;
-    if (!(b->memory = take_place())) return ENVY_NO_MEMORY;
-    if (!(b->known = known_new())) code = ENVY_NO_MEMORY;
-    if (!code) code = open_file(b, path, options->bytewise);
-    if (code) {
+    if (!(b->known = known_new())) return ENVY_NO_MEMORY;
+    if ((code = open_file(b, path, options->bytewise))) {
         free(b->known);
-        give_place(b->memory);
         return code;
     }
     b->room = (uint64_t)b->setup.pages * PAGE_BYTES - PAGE_BYTES;
@@ -149,8 +122,7 @@ uint32_t bytes_close(bytes *b, int is_kept) {
     free(b->known);
     b->known = NULL;
     batch_forget(b);
-    uint32_t code = is_kept ? envy_close(b->memory) : envy_leave(b->memory);
-    give_place(b->memory);
+    uint32_t code = is_kept ? envy_close(&b->memory) : envy_leave(&b->memory);
     if (!code) errno = why;
     return code;
 }
@@ -161,7 +133,7 @@ static uint32_t word_at(uint64_t at) { return HEADER_WORDS + (uint32_t)(at / WOR
 
 static uint32_t read_words(bytes *b, uint64_t at, uint64_t *words, size_t n) {
     if (!n) return ENVY_DONE;
-    uint32_t code = envy_read(b->memory, word_at(at), words, n);
+    uint32_t code = envy_read(&b->memory, word_at(at), words, n);
     if (code) return code;
     b->counts.words_read += n;
     known_note(b->known, at, words, n);
@@ -268,5 +240,5 @@ uint32_t bytes_set_length(bytes *b, uint64_t length) {
 
 uint32_t bytes_sync(bytes *b) {
     b->counts.syncs++;
-    return envy_sync(b->memory);
+    return envy_sync(&b->memory);
 }

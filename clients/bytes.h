@@ -49,7 +49,7 @@ struct known_words; /* known.h */
 struct undone;      /* batch.c */
 
 typedef struct bytes {
-    envy *memory;
+    envy memory;
     envy_setup setup;
     uint64_t room;   /* bytes */
     uint64_t length; /* word 1 of the header */

@@ -14,7 +14,7 @@ uint32_t known_find(bytes *b, uint64_t number, known_line **line) {
     uint64_t first = number * LINE_WORDS, all = b->room / WORD_BYTES;
     size_t n = all - first < LINE_WORDS ? (size_t)(all - first) : LINE_WORDS;
     known_forget(found);
-    uint32_t code = envy_read(b->memory, (uint32_t)(HEADER_WORDS + first), found->words, n);
+    uint32_t code = envy_read(&b->memory, (uint32_t)(HEADER_WORDS + first), found->words, n);
     if (code) return code;
     b->counts.words_read += n;
     found->number_and_1 = number + 1;

@@ -85,9 +85,12 @@ make -s -C ../c uninstall PREFIX="$work/installed"
 # the same work over each board, and a program in the earlier names
 mkdir "$work/one" "$work/one-asan" "$work/old"
 out/one "$work/one"
-ASAN_OPTIONS=detect_leaks=0 out/one-asan "$work/one-asan" # a handle's place lasts as long as the process
+out/one-asan "$work/one-asan"
 echo "library: the same work is answered the same over files, regions and a simulation"
 out/old_names "$work/old"
+mkdir "$work/copies" "$work/copies-asan" "$work/arm-copies"
+out/copies "$work/copies"
+out/copies-asan "$work/copies-asan"
 
 # 10,000 commands that are drawn, some loads made looks, and a failure of power before every thousandth
 ../envy gen --start 20 --lines 10000 |
@@ -121,10 +124,10 @@ out/worn
 
 # kept files: kills, failures, and the words of 10,000 drawn commands, which `envy keep` and the library find in one file
 out/kept_killed "$work/kept.file" 200 "${1-1}"
-ASAN_OPTIONS=detect_leaks=0 out/kept_failing-asan "${1-1}" # a handle lasts as long as the process
+out/kept_failing-asan "${1-1}"
 mkdir "$work/kept" "$work/edges" "$work/edges-asan" "$work/arm-kept" && out/kept_files "$work/kept"
 out/kept_edges "$work/edges"
-ASAN_OPTIONS=detect_leaks=0 out/kept_edges-asan "$work/edges-asan"
+out/kept_edges-asan "$work/edges-asan"
 grep -v '^power' "$work/trace" | awk '{ print } NR % 100 == 0 { print "sync" }' >"$work/syncing"
 ../envy keep --file "$work/word.kept" <"$work/syncing" >"$work/wanted"
 out/kept_words "$work/library.kept" <"$work/syncing" >"$work/kept.replies"
@@ -138,16 +141,16 @@ echo "library: $(wc -l <"$work/syncing") replies of a kept file are those of env
 out/refused-asan "$work/refused.file"
 out/sized "$work/sized.file"
 out/killed "$work/killed.file" 200 "${1-1}"
-ASAN_OPTIONS=detect_leaks=0 out/ordered-asan "$work/ordered-asan.file" 50000 "${1-1}" # a handle lasts as long as the process
+out/ordered-asan "$work/ordered-asan.file" 50000 "${1-1}"
 out/ordered "$work/ordered.file" 1000000 "${1-1}"
-ASAN_OPTIONS=detect_leaks=0 out/maps-asan "$work/maps-asan.file" 50000 "${1-1}"
+out/maps-asan "$work/maps-asan.file" 50000 "${1-1}"
 out/maps "$work/maps.file" 1000000 "${1-1}"
-ASAN_OPTIONS=detect_leaks=0 out/broken_maps-asan "$work/broken-asan.file" 20000 "${1-1}"
+out/broken_maps-asan "$work/broken-asan.file" 20000 "${1-1}"
 out/broken_maps "$work/broken.file" 200000 "${1-1}"
 out/kept_ordered "$work/kept-ordered.file" 32000 "${1-1}"
 # (10,000,000 pairs, in an array of more pages than the tree once took, take some minutes: out/large_map FILE 10000000)
 out/large_map "$work/large-map.file" 100000
-ASAN_OPTIONS=detect_leaks=0 out/files-asan "$work/files.file" # a handle lasts as long as the process
+out/files-asan "$work/files.file"
 for test in ../rust/tests/*.rs; do TMPDIR=$work "out/rust-$(basename "$test" .rs)" --quiet; done
 
 [ "$(out/threads-rust "$work/threads.kept")" = "8000 in all" ]
@@ -166,7 +169,7 @@ done
 echo "library: the account book is the same in C and in Rust"
 
 for program in prices prices-asan prices-rust; do
-    prices() { ASAN_OPTIONS=detect_leaks=0 out/$program "$work/$program.prices" "$@"; }
+    prices() { out/$program "$work/$program.prices" "$@"; }
     for i in 1 2 3 4 5 6 7 8 9; do prices set "$i" "$((i * 7 % 10))"; done
     prices set 3 7 && prices drop 5
     if prices drop 5 2>"$work/errors"; then exit 1; fi
@@ -187,6 +190,7 @@ emulated() { program=$1 && shift && qemu-aarch64 "out/$arm/$program" "$@"; }
 ../envy run <"$work/trace" >"$work/wanted"
 mkdir "$work/arm-one"
 emulated one "$work/arm-one"
+emulated copies "$work/arm-copies"
 emulated replay "$work/arm.file" <"$work/trace" >"$work/arm.replies"
 cmp "$work/wanted" "$work/arm.replies"
 emulated refused "$work/arm-refused.file"

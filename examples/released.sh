@@ -54,6 +54,24 @@ here=$work/envy-$version
 answers "the tar" "$here/envy"
 ln -s "$here/envy" "$work/linked"
 answers "a link to it" "$work/linked"
+# in a root that has nothing but what the package asks for: bash, an awk, the tools that each Debian has, and what they load
+bare() {
+    local tool path
+    for tool in bash awk env cat head tr od grep readlink; do
+        path=$(readlink -f "$(command -v $tool)")
+        mkdir -p "$work/bare/bin" && cp "$path" "$work/bare/bin/$tool"
+        ldd "$path" | grep -o '/[^ ]*' | while read -r path; do cp --parents -L -n "$path" "$work/bare"; done
+    done
+    ldd "$here/program" | grep -o '/[^ ]*' | while read -r path; do cp --parents -L -n "$path" "$work/bare"; done
+    mkdir -p "$work/bare/usr/bin" "$work/bare/dev" && ln -s ../../bin/env "$work/bare/usr/bin/env" && : >"$work/bare/dev/null"
+    cp -r "$here" "$work/bare/envy" && cp examples/first.trace "$work/bare"
+    unshare -r chroot "$work/bare" /bin/env -i PATH=/bin /envy/envy run <examples/first.trace
+}
+if unshare -r true 2>/dev/null; then
+    bare 2>"$work/text" | cmp - examples/first.replies || fail "a bare root: $(cat "$work/text")"
+else
+    echo "released: no bare root was tried: unshare doesn't run here" >&2
+fi
 headers=$(printf '#include <sqlite3ext.h>\n#include <nbdkit-plugin.h>\n' | gcc -DNBDKIT_API_VERSION=2 -E - >/dev/null 2>&1 && echo here)
 if command -v dpkg-deb >/dev/null; then
     dpkg-deb -x "$work/clone/out/envy_${version}_amd64.deb" "$work/installed" || fail "the package isn't one"

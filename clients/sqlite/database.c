@@ -278,7 +278,7 @@ static int pragma(database *d, char **text) {
     const char *name = text[1];
     envy_counts counts;
     if (!sqlite3_stricmp(name, "envy_stat")) {
-        if (envy_counters(d->bytes.memory, &counts)) return SQLITE_ERROR;
+        if (envy_counters(&d->bytes.memory, &counts)) return SQLITE_ERROR;
         text[0] = told(d, &counts);
         return text[0] ? SQLITE_OK : SQLITE_NOMEM;
     }
@@ -288,7 +288,7 @@ static int pragma(database *d, char **text) {
             text[0] = sqlite3_mprintf("a transaction is open");
             return SQLITE_BUSY;
         }
-        uint32_t code = envy_compact(d->bytes.memory);
+        uint32_t code = envy_compact(&d->bytes.memory);
         text[0] = sqlite3_mprintf("%s", bytes_text(code));
         return code ? SQLITE_IOERR : SQLITE_OK;
     }

@@ -91,7 +91,7 @@ static void never_made(void) {
     WANT(envy_powered(&m), ENVY_EMPTY);
     WANT(envy_index_count(&m, &word), ENVY_EMPTY);
     WANT(envy_index_next(&m, 0, &pair), ENVY_EMPTY);
-    WANT(envy_open_port(&m, &setup, (const uint8_t *)"", 0, 0, 0), ENVY_EMPTY);
+    WANT(envy_open_port(&m, &setup, (const uint8_t *)"", 0, 0, 0), ENVY_OFF); /* no disk has this port */
     envy_close(&m);
     WANT(word, 7);
     WANT(done, 0);

@@ -21,6 +21,24 @@ pub struct Counts {
     pub swaps: u64,
 }
 
+/// What a memory did and holds.
+#[derive(Clone, Copy, Debug, Default, PartialEq, Eq)]
+pub struct Stats {
+    pub counts: Counts,
+    /// Rows of flash that are erased, that loads read, that hold the earlier words of owned pages, and that are dead.
+    pub free: u64,
+    pub kept: u64,
+    pub shadows: u64,
+    pub dead: u64,
+    /// Segments, and how often the one was erased that was erased least, and most.
+    pub segments: u32,
+    pub least_wear: u64,
+    pub most_wear: u64,
+    pub worn: Worn,
+    /// Bytes of the file that it was opened from, else 0.
+    pub file_bytes: u64,
+}
+
 /// What a background step did.
 #[derive(Clone, Copy, Debug, PartialEq, Eq)]
 pub enum Did {
@@ -44,6 +62,22 @@ pub(crate) fn did_of(number: u32) -> Did {
         6 => Did::Placed,
         7 => Did::Erased,
         _ => Did::Idle,
+    }
+}
+
+pub(crate) fn stats_of(found: sys::Stats) -> Stats {
+    let [free, kept, shadows, dead] = found.rows;
+    Stats {
+        counts: counts_of(found.counts),
+        free,
+        kept,
+        shadows,
+        dead,
+        segments: found.segments,
+        least_wear: found.least_wear,
+        most_wear: found.most_wear,
+        worn: Worn { retired: found.retired, left: found.reserves },
+        file_bytes: found.file_bytes,
     }
 }
 

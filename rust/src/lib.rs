@@ -45,7 +45,7 @@ mod simulation;
 mod sys;
 mod transaction;
 
-pub use counts::{Counts, Did, Worn};
+pub use counts::{Counts, Did, Stats, Worn};
 pub use error::{Error, Point, Rule, Stopped};
 pub use index::{Index, Pair, Range};
 pub use maps::{Changes, Map, Maps, Pairs};

@@ -1,13 +1,12 @@
 //! A memory, and its words.
 
-use crate::counts::{counts_of, did_of, Counts, Did, Worn};
+use crate::counts::{counts_of, did_of, stats_of, Counts, Did, Stats, Worn};
 use crate::error::{Error, Stopped};
 use crate::regions::Regions;
 use crate::sys;
 use crate::transaction::Transaction;
 use std::cell::UnsafeCell;
-use std::ffi::{c_void, CStr};
-use std::sync::Mutex;
+use std::ffi::CStr;
 use std::{io, mem, ptr};
 
 /// A memory: an array of words over a file, over a file that the process maps, over regions of memory, or over a board whose
@@ -34,9 +33,6 @@ pub(crate) enum Over {
 // SAFETY: a handle may be used from any thread, by one call at a time; without `Sync` no two threads call at once.
 unsafe impl Send for Memory {}
 
-/// The places of memories that were closed, as numbers: a place stays until the process ends, and serves again.
-static PLACES: Mutex<Vec<usize>> = Mutex::new(Vec::new());
-
 /// The version of the library that is linked.
 pub fn version() -> &'static str {
     // SAFETY: the text is a string that lasts as long as the program.
@@ -44,20 +40,14 @@ pub fn version() -> &'static str {
 }
 
 impl Memory {
-    /// A handle whose place holds no memory yet. If there is no place, that over which it was to stand comes back.
-    pub(crate) fn empty(over: Over) -> Result<Memory, (Error, Over)> {
-        let at = PLACES.lock().ok().and_then(|mut it| it.pop()).unwrap_or(0) as *mut c_void;
-        let memory = Memory { handle: UnsafeCell::new(sys::Handle { at, file: ptr::null_mut() }), over };
-        // SAFETY: the handle is this memory's, and has no place.
-        match if at.is_null() { unsafe { sys::envy_new(memory.handle()) } } else { sys::DONE } {
-            sys::DONE => Ok(memory),
-            code => Err((Error::of(code, 0), memory.into_over())),
-        }
+    /// A handle that holds no memory yet.
+    pub(crate) fn empty(over: Over) -> Memory {
+        Memory { handle: UnsafeCell::new(sys::Handle { at: ptr::null_mut(), file: ptr::null_mut() }), over }
     }
 
     /// Ends the memory, and hands back what it stood over.
     pub(crate) fn into_over(mut self) -> Over {
-        // SAFETY: the handle is there; an empty place stays as it is.
+        // SAFETY: the handle is there; one that holds no memory stays as it is.
         unsafe { sys::envy_close(self.handle()) };
         mem::replace(&mut self.over, Over::Mapped)
     }
@@ -214,6 +204,18 @@ impl Memory {
         worn
     }
 
+    /// What the memory did and holds, in a time that grows with its rows.
+    ///
+    /// # Errors
+    ///
+    /// `Off`.
+    pub fn stats(&self) -> Result<Stats, Error> {
+        let mut found = sys::Stats::default();
+        // SAFETY: the memory is open, and the record is this call's.
+        self.check(unsafe { sys::envy_stat(self.handle(), &mut found) })?;
+        Ok(stats_of(found))
+    }
+
     /// Brings all that was done to the disk. Over regions and a board that can be made to fail nothing is to be brought.
     ///
     /// # Errors
@@ -241,7 +243,7 @@ impl Memory {
     ///
     /// `Off` or `System`.
     pub fn close(self) -> Result<(), Error> {
-        // SAFETY: the memory is open. What is dropped after this is a handle of an empty place.
+        // SAFETY: the memory is open. What is dropped after this is a handle that holds none.
         Error::check(unsafe { sys::envy_close(self.handle()) })
     }
 
@@ -258,11 +260,7 @@ impl Memory {
 
 impl Drop for Memory {
     fn drop(&mut self) {
-        // SAFETY: no transaction borrows the memory. An empty place stays as it is.
+        // SAFETY: no transaction borrows the memory. A handle that holds none stays as it is.
         unsafe { sys::envy_close(self.handle()) };
-        let place = self.handle.get_mut().at as usize;
-        if let (true, Ok(mut places)) = (place != 0, PLACES.lock()) {
-            places.push(place);
-        }
     }
 }

@@ -86,9 +86,36 @@ impl Memory {
         Memory::open_mapped(path, setup, Open::CREATE)
     }
 
+    /// Makes a copy while the memory is in use: a new file, with the words that are committed, of the kind of the memory's file,
+    /// or one that [`open_file`](Memory::open_file) opens. Without a setup it is that of the memory's file.
+    ///
+    /// # Errors
+    ///
+    /// `System`, as if there is a file; `Range`: the setup has fewer pages; `OtherBoard`: there is no file whose setup it could
+    /// be; `Off`; or those of `open_file`.
+    pub fn copy<'s>(&self, path: impl AsRef<Path>, setup: impl Into<Option<&'s Setup>>) -> Result<(), Error> {
+        let path = c_path(path.as_ref())?;
+        let numbers = setup.into().map(Setup::numbers);
+        let setup = numbers.as_ref().map_or(ptr::null(), |it| it as *const _);
+        // SAFETY: the memory is open; the others are pointers to a string and a setup of this call's, or to no setup.
+        self.check(unsafe { sys::envy_copy(self.handle(), path.as_ptr(), setup) })
+    }
+
+    /// Gives the file other sizes, with at least as many pages, by a copy that takes its place. No transaction is borrowed
+    /// meanwhile.
+    ///
+    /// # Errors
+    ///
+    /// `OtherBoard`: it wasn't opened by a path; `SlotOpen`, where a transaction was forgotten; those of `copy`. The memory goes
+    /// on as it was, unless the file can't be opened again.
+    pub fn grow(&mut self, setup: &Setup) -> Result<(), Error> {
+        // SAFETY: the memory is open, and the setup is this call's.
+        self.check(unsafe { sys::envy_grow(self.handle(), &setup.numbers()) })
+    }
+
     fn opened(over: Over, path: &Path, setup: Option<&Setup>, how: Open, open: Opening) -> Result<Memory, Error> {
         let path = c_path(path)?;
-        let memory = Memory::empty(over).map_err(|(error, _)| error)?;
+        let memory = Memory::empty(over);
         let numbers = setup.map(Setup::numbers);
         let setup = numbers.as_ref().map_or(ptr::null(), |it| it as *const _);
         // SAFETY: the handle is this memory's, and holds none; the others are pointers to a string and a setup of this call's,

@@ -76,7 +76,7 @@ impl Memory {
     }
 
     fn over(setup: &Setup, regions: Regions, open: Opening) -> Result<Memory, (Error, Regions)> {
-        let mut memory = Memory::empty(Over::Regions(regions)).map_err(given_back)?;
+        let mut memory = Memory::empty(Over::Regions(regions));
         let handle = memory.handle();
         let Over::Regions(regions) = &mut memory.over else { unreachable!("it was made over regions just now") };
         let flash = sys::Rows { at: regions.flash.as_mut_ptr(), len: regions.flash.len() };
@@ -86,7 +86,10 @@ impl Memory {
         // it alone, which doesn't touch them.
         match unsafe { open(handle, &setup.numbers(), flash, sram, erases) } {
             sys::DONE => Ok(memory),
-            code => Err(given_back((Error::of(code, 0), memory.into_over()))),
+            code => match memory.into_over() {
+                Over::Regions(regions) => Err((Error::of(code, 0), regions)),
+                _ => unreachable!("it was made over regions just now"),
+            },
         }
     }
 
@@ -97,13 +100,5 @@ impl Memory {
             Over::Regions(regions) => Some(regions),
             _ => None,
         }
-    }
-}
-
-/// The error of a call that was given regions, and these.
-fn given_back((error, over): (Error, Over)) -> (Error, Regions) {
-    match over {
-        Over::Regions(regions) => (error, regions),
-        _ => unreachable!("the call was given regions"),
     }
 }

@@ -38,7 +38,7 @@ impl Memory {
     ///
     /// `Setup` or `Policy`; `NoMemory`.
     pub fn open_simulation(setup: &Setup, lives: u32) -> Result<Memory, Error> {
-        let memory = Memory::empty(Over::Simulation).map_err(|(error, _)| error)?;
+        let memory = Memory::empty(Over::Simulation);
         // SAFETY: the handle is this memory's, and holds none; the setup is this call's.
         Error::check(unsafe { sys::envy_open_sim(memory.handle(), &setup.numbers(), lives) })?;
         Ok(memory)
@@ -50,7 +50,7 @@ impl Memory {
     ///
     /// Those of `open_simulation`; a number of its own for each way in which bytes are no image of this setup; what was found.
     pub fn restore(setup: &Setup, lives: u32, image: &[u8]) -> Result<Memory, Error> {
-        let memory = Memory::empty(Over::Simulation).map_err(|(error, _)| error)?;
+        let memory = Memory::empty(Over::Simulation);
         let numbers = setup.numbers();
         // SAFETY: the handle is this memory's, and holds none; the setup is this call's, and the slice has so many bytes.
         Error::check(unsafe { sys::envy_restore(memory.handle(), &numbers, lives, image.as_ptr(), image.len()) })?;

@@ -31,6 +31,20 @@ pub struct Counts {
     pub swaps: u64,
 }
 
+/// What a memory did and holds.
+#[repr(C)]
+#[derive(Default)]
+pub struct Stats {
+    pub counts: Counts,
+    pub rows: [u64; 4],
+    pub segments: u32,
+    pub retired: u32,
+    pub reserves: u32,
+    pub least_wear: u64,
+    pub most_wear: u64,
+    pub file_bytes: u64,
+}
+
 /// A pair of a map.
 #[repr(C)]
 #[derive(Clone, Copy, Debug, Default, PartialEq, Eq)]
@@ -135,13 +149,15 @@ extern "C" {
     pub fn envy_setup_for(words: u64, owned_pages: u32, setup: *mut Setup) -> u32;
     pub fn envy_close(m: *mut Handle) -> u32;
     pub fn envy_leave(m: *mut Handle) -> u32;
+    pub fn envy_copy(m: *mut Handle, path: *const c_char, setup: *const Setup) -> u32;
+    pub fn envy_grow(m: *mut Handle, setup: *const Setup) -> u32;
+    pub fn envy_stat(m: *mut Handle, stats: *mut Stats) -> u32;
     pub fn envy_open_file(m: *mut Handle, path: *const c_char, setup: *const Setup, flags: u32) -> u32;
     pub fn envy_open_mapped(m: *mut Handle, path: *const c_char, setup: *const Setup, flags: u32) -> u32;
     pub fn envy_file_shape(path: *const c_char, setup: *mut Setup) -> u32;
     pub fn envy_file_error(m: *const Handle) -> c_int;
     pub fn envy_sync(m: *mut Handle) -> u32;
     pub fn envy_compact(m: *mut Handle) -> u32;
-    pub fn envy_new(m: *mut Handle) -> u32;
     pub fn envy_region_sizes(setup: *const Setup, sizes: *mut Sizes) -> u32;
     pub fn envy_sram_shape(sram: *const u64, n: usize, setup: *mut Setup) -> u32;
     pub fn envy_format_regions(m: *mut Handle, setup: *const Setup, flash: Rows, sram: Words, erases: Words) -> u32;

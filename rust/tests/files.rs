@@ -138,6 +138,34 @@ fn a_transaction_of_a_closure_is_kept_or_undone() {
     fs::remove_file(path).unwrap();
 }
 
+#[test]
+fn a_memory_is_copied_and_grows() {
+    let path = path("grows");
+    let setup = Setup::for_words(1000, 4).unwrap();
+    let mut memory = Memory::open_file(&path, &setup, Open::CREATE).unwrap();
+    memory.store(999, 7).unwrap();
+    let open = memory.begin().unwrap();
+    open.put(5, 8).unwrap();
+    let copy = path.with_extension("copy");
+    memory.copy(&copy, None).unwrap();
+    assert!(matches!(memory.copy(&copy, None), Err(Error::System(_))));
+    drop(open);
+    let larger = Setup::for_words(5000, 40).unwrap();
+    memory.grow(&larger).unwrap();
+    memory.store(4999, 9).unwrap();
+    assert_eq!((memory.load(999).unwrap(), memory.load(5).unwrap()), (7, 0));
+    let stats = memory.stats().unwrap();
+    assert_eq!(stats.free + stats.kept + stats.shadows + stats.dead, u64::from(larger.segments * larger.rows));
+    assert_eq!(stats.file_bytes, fs::metadata(&path).unwrap().len());
+    drop(memory);
+    assert_eq!(Setup::of_file(&path).unwrap().pages, larger.pages);
+    let copied = Memory::open_file(&copy, None, Open::default()).unwrap();
+    assert_eq!((copied.load(999).unwrap(), copied.load(5).unwrap()), (7, 0));
+    drop(copied);
+    fs::remove_file(copy).unwrap();
+    fs::remove_file(path).unwrap();
+}
+
 /// A limit of the process, as C has it.
 #[repr(C)]
 struct Limit {

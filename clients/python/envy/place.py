@@ -7,14 +7,11 @@ import ctypes
 import errno
 import os
 import threading
-from typing import Any, Deque, List, Set
+from typing import Any, Deque, Set
 
 from . import library
 from .errors import ClosedError, EnvyError, FileError, ForkedError, HeldError, error, file_error
 from .library import SetupStruct
-
-# Handles of files that were closed. The library keeps a handle's place until the process ends, so the next file gets it.
-_unused: List[Any] = []
 
 
 class Place:
@@ -33,21 +30,12 @@ class Place:
         # how often words were changed by other calls than those of a map, and how often when they were seen to be one
         self.writes = 0
         self.map_at: Optional[int] = None
-        name, handle = library.encoded(path), self._unused_handle()
+        name, handle = library.encoded(path), library.Handle()
         flags = library.READING if readonly else library.CREATE | (library.BYTEWISE if bytewise else 0)
         code = self.c.envy_open_file(handle, name, ctypes.byref(setup), flags)
         if code:
-            why = ctypes.get_errno()
-            _unused.append(handle)
-            raise self._error(code, why, path)
+            raise self._error(code, ctypes.get_errno(), path)
         self.handle = handle
-
-    def _unused_handle(self) -> Any:
-        # (asked of the list at once, which other threads take from too)
-        try:
-            return _unused.pop()
-        except IndexError:
-            return library.Handle()
 
     def __enter__(self) -> Any:
         # before the lock, which another thread may have had when the process was forked off
@@ -100,7 +88,6 @@ class Place:
                 return
             code = (self.c.envy_close if sync else self.c.envy_leave)(handle)
             why = ctypes.get_errno()
-            _unused.append(handle)
         if code:
             raise file_error(code, why, self.path)
 
