@@ -124,7 +124,7 @@ uint32_t envy_sync(envy *m) {
 
 /* (a mapped file keeps its size, so a compaction of it is a sync) */
 uint32_t envy_compact(envy *m) {
-    const envy_held *f = m->file;
+    envy_held *f = m->file;
     if (!m->at) return ENVY_EMPTY;
     return f && f->kind == MAPPED ? envy_mapping_sync(&f->of.mapping) : envy_proved_compact(m);
 }
