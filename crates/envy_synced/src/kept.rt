@@ -76,7 +76,7 @@ impl<B: Steady, D: Device> Kept<B, D> {
 }
 
 impl<B: Steady, D: Device> Board for Kept<B, D> {
-    ghost use Rattle.envy_synced.specs.Disk.{CrashLeaves, IsKept, IsCompact, IsHindered, IsSynced, disk_state};
+    ghost use Rattle.envy_synced.specs.Disk.{lawful_disk};
     ghost use Rattle.envy_journal.specs.Journal.{lawful_lem};
 
     ghost state = { λ k. disk_state D.seen D.moment D.hindered k.synced.value.log k.before.value.log (journal_state k.journal.dead (B.state k.journal.board)) };

@@ -80,7 +80,7 @@ returns-in-Ok-clause-compact g c = λ done.
     let few = e.short (c.made_of-made.ensures.done done) in
     let short = subst (λ (x : g.row.B.Denot). length (seen new.log.device) ≤ most_of (g.B.Board.state x).shape) (sym e.board) few in
     let compact : IsCompact (chart (disk_state seen moment g.D.Device.hindered new.log k.synced.value.log b)) = compact_now seen moment g.D.Device.hindered new.log k.synced.value.log b short in
-    rw (c.replace-last.ensures.value, c.replace-last.ensures.after, c.of.ensures, e.ok.still_alive) compact
+    rw (c.replace-last.ensures.after, c.of.ensures, e.ok.still_alive) compact
 
 pub returns-in-Ok-clause-hindered : goal.returns-in-Ok-clause-hindered
 returns-in-Ok-clause-hindered g c = λ appended.
@@ -91,7 +91,7 @@ returns-in-Ok-clause-hindered g c = λ appended.
     let more = e.hindered refl (c.made_of-made.ensures.appended appended) in
     let still = k.kept.unhindered (ap (λ (dead : Bool). (journal_state dead (g.B.Board.state k.journal.board)).on) e.ok.alive ∙ (g.met.B.Steady.steady k.journal.board).on) in
     let rose : hindered k.synced.value.log.device < hindered new.log.device = omega (arith, more, still) in
-    rw (c.replace-last.ensures.value, c.replace-last.ensures.after, c.of.ensures) rose
+    rw (c.replace-last.ensures.after, c.of.ensures) rose
 
 pub returns-in-Err-clause-answer : goal.returns-in-Err-clause-answer
 returns-in-Err-clause-answer g c =
