@@ -7,11 +7,12 @@ use Rattle.envy_begun.proofs.Again.{off-attach, still-compact, still-same, taken
 use Rattle.envy_begun.proofs.Alike.{alike-stays, fault-leaves, leaves-as, leaves-still, still-written}
 use Rattle.envy_begun.specs.Left.{Leaves, OpensAlike, StaysWritten}
 use Rattle.envy_calls.specs.Making.{IsWhole}
-use Rattle.envy_journal.specs.Journal.{lawful_lem}
-use Rattle.envy_map.specs.Fields.{chart}
-use Rattle.envy_synced.specs.Disk.{lawful_disk}
+use Rattle.envy_journal.specs.Journal.{journal_state, lawful_lem}
+use Rattle.envy_map.specs.Fields.{Chart, chart}
+use Rattle.envy_synced.specs.Disk.{disk_state, lawful_disk}
 use Rattle.envy_soundness.specs.Same.{Kept}
 use Rattle.envy_memory.specs.Attaching.{Attaches}
+use Rattle.envy_begun.proofs.found_journal.begin_again.Given.{Over}
 use Rattle.envy_begun.proofs.found_journal.begin_again.Goals as goal
 
 pub returns-in-Err-clause-failed : goal.returns-in-Err-clause-failed
@@ -40,14 +41,14 @@ returns-in-Err-opened_as_asked-clause-left g c =
 pub attach-requires : goal.attach-requires
 attach-requires g c on formatted =
     let j = c.in-Ok-opened_as_asked.kept.journal in
-    let board = lawful_disk _ _ _ _ _ (lawful_lem j.dead (g.B.Board.state j.board) (g.met.B.Board.lawful j.board)) in
+    let board = lawful_disk _ _ (lawful_lem j.dead (g.B.Board.state j.board) (g.met.B.Board.lawful j.board)) in
     let (words, opens) = c.in-Ok.ensures.words in
     IsWhole.sound (whole-again (g.B.Board.state c.read_journal.new.board).shape c.args.bytes.now _ c.in-Ok-opened_as_asked.ensures.opened c.args.setup (c.read_journal.ensures.shape ∙ c.requires.shape) board c.requires.setup words opens)
 
 pub returns-in-Ok-attach-clause-begun : goal.returns-in-Ok-attach-clause-begun
 returns-in-Ok-attach-clause-begun g c =
     let j = c.in-Ok-opened_as_asked.kept.journal in
-    let board = lawful_disk _ _ _ _ _ (lawful_lem j.dead (g.B.Board.state j.board) (g.met.B.Board.lawful j.board)) in
+    let board = lawful_disk _ _ (lawful_lem j.dead (g.B.Board.state j.board) (g.met.B.Board.lawful j.board)) in
     let (words, opens) = c.in-Ok.ensures.words in
     let same = c.read_journal.ensures.shape ∙ c.requires.shape in
     taken-up (g.B.Board.state c.read_journal.new.board).shape c.args.bytes.now _ c.in-Ok-opened_as_asked.ensures.opened c.args.setup same c.in-Ok-attach.memory c.in-Ok-opened_as_asked.ensures.synced
@@ -69,12 +70,20 @@ returns-in-Err-attach-clause-left g c =
     (fault-leaves g.D.Device.left_since g.D.Device.moment (g.B.Board.state c.read_journal.new.board).shape c.args.bytes.now c.closed-device.result.0 _ _ c.in-Ok-opened_as_asked.ensures.opened c.in-Ok-opened_as_asked.ensures.synced c.closed-device.ensures.leaves
     g.D.Device.seen g.D.Device.has_failed c.args.setup c.unattached.result.1 unbegun c.in-Err-attach.fault c.closed-device.result.1 c.in-Err-attach.ensures c.unattached.ensures.says c.unattached.ensures.time c.unattached.ensures.left)
 
+was : (g : Over) (c : goal.In-Ok-attach g) → Chart
+was g c =
+    let k = c.in-Ok-opened_as_asked.kept in
+    let D = g.D.Device in
+    chart (disk_state D.seen D.moment D.hindered k.synced.value.log k.before.value.log (journal_state k.journal.dead (g.B.Board.state k.journal.board)))
+
 pub returns-in-Ok-attach-clause-compacted : goal.returns-in-Ok-attach-clause-compacted
+unfolding was
 returns-in-Ok-attach-clause-compacted g c asked =
-    let kept : Kept _ c.in-Ok-attach.memory.chart = Attaches.kept c.in-Ok-attach.ensures in
-    still-compact _ c.in-Ok-attach.memory.chart kept.shape kept.counted.notes (c.in-Ok-opened_as_asked.ensures.compacted asked)
+    let kept : Kept (was g c) c.in-Ok-attach.memory.chart = Attaches.kept c.in-Ok-attach.ensures in
+    still-compact (was g c) c.in-Ok-attach.memory.chart kept.shape kept.counted.notes (c.in-Ok-opened_as_asked.ensures.compacted asked)
 
 pub returns-in-Ok-attach-clause-same : goal.returns-in-Ok-attach-clause-same
+unfolding was
 returns-in-Ok-attach-clause-same g c not =
-    let kept : Kept _ c.in-Ok-attach.memory.chart = Attaches.kept c.in-Ok-attach.ensures in
-    still-same c.args.bytes.now _ c.in-Ok-attach.memory.chart kept.counted.notes (c.in-Ok-opened_as_asked.ensures.same not)
+    let kept : Kept (was g c) c.in-Ok-attach.memory.chart = Attaches.kept c.in-Ok-attach.ensures in
+    still-same c.args.bytes.now (was g c) c.in-Ok-attach.memory.chart kept.counted.notes (c.in-Ok-opened_as_asked.ensures.same not)
