@@ -33,7 +33,7 @@ use Rattle.envy_keep.specs.Turns.{KeepRun, KeepTurn, keep_grammar, says_synced, 
 
 -- the last sync, done: the end is status 0
 pub concludes-ok : (old new : Picture) → IsSynced new.chart → SyncsChart {T = Unit {0}} old.chart (Ok tt) new.chart → new ≡ record old { chart = new.chart } → Concludes EndDone 0 old new
-concludes-ok old new good (on, sync, is) kept = inl (refl, good, plans, given, kept ∙ ap (λ (c : Chart). record old { chart = c }) is)
+concludes-ok old new good (on, sync, is) kept = inl (refl, good, sync, kept ∙ ap (λ (c : Chart). record old { chart = c }) is)
 
 -- the last sync, failed: power is off, and the end is status 6
 pub concludes-err : (old new : Picture) (off : Off) → IsTrue old.chart.on → SyncsChart {T = Unit {0}} old.chart (Err off) new.chart → new ≡ record old { chart = new.chart } → Concludes EndDone 6 old new

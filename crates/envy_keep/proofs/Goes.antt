@@ -51,7 +51,7 @@ use Rattle.envy_keep.specs.Turns.{KeepRun, KeepTurn, keep_grammar, trace_turns}
 
 -- a sync that is done is answered `synced`
 pub syncs-ok : (old new : Picture) → IsSynced new.chart → SyncsChart {T = Unit {0}} old.chart (Ok tt) new.chart → new ≡ record old { chart = new.chart } → SyncsTo Synced old new
-syncs-ok old new good (on, sync, is) kept = inl (refl, good, plans, given, kept ∙ ap (λ (c : Chart). record old { chart = c }) is)
+syncs-ok old new good (on, sync, is) kept = inl (refl, good, sync, kept ∙ ap (λ (c : Chart). record old { chart = c }) is)
 
 -- a sync that fails is answered `lost`
 pub syncs-err : (old new : Picture) (off : Off) → IsTrue old.chart.on → SyncsChart {T = Unit {0}} old.chart (Err off) new.chart → new ≡ record old { chart = new.chart } → SyncsTo (TraceReply Lost) old new
@@ -161,7 +161,7 @@ sync-more start old turns t sync good shows =
       run = (t.array, t.run, (refl, refl));
       stands = told-stands old.chart sync t.array stood;
       telling = record { can = Telling.can t.telling; last = Telling.last t.telling; tallies = record { programs = Tallies.programs tallies; erases = Tallies.erases tallies } };
-      plays = (old, t.plays, (refl, (plans, given, refl), shows));
+      plays = (old, t.plays, (refl, (sync, refl), shows));
       shape = t.shape;
       saved = record {
         was = with_sync old.chart sync;
@@ -173,7 +173,7 @@ sync-more start old turns t sync good shows =
         array = t.array;
         run = (t.array, t.run, (refl, refl));
         words = Holds.durable stood.holds;
-        on_disk = (record old { chart = with_sync old.chart sync }, (old, t.plays, (refl, (plans, given, refl), shows)), refl);
+        on_disk = (record old { chart = with_sync old.chart sync }, (old, t.plays, (refl, (sync, refl), shows)), refl);
       };
     }
 
@@ -203,7 +203,7 @@ sync-lost start old turns t =
 pub more : (start : Start) (old new : Picture) (turns : List KeepTurn) (line : KeepLine) (reply : KeepReply) → KeptSince start old turns → IsKeepLine line → AnswersKeep line reply old new → ShowsMemory new → KeptSince start new (record { line = line; replies = reply ∷ [] } ∷ turns)
 more start old new turns (Trace line) reply t call (said, is, a) shows =
     subst (λ (r : KeepReply). KeptSince start new (record { line = Trace line; replies = r ∷ [] } ∷ turns)) (sym is) (trace-more start old new turns line said t call a shows)
-more start old new turns Sync reply t call (inl (is, good, plans, given, same)) shows =
+more start old new turns Sync reply t call (inl (is, good, sync, same)) shows =
     subst (λ (r : KeepReply). KeptSince start new (record { line = Sync; replies = r ∷ [] } ∷ turns)) (sym is)
     (subst (λ (p : Picture). KeptSince start p (record { line = Sync; replies = Synced ∷ [] } ∷ turns)) (sym same) (sync-more start old turns t sync (subst (λ (p : Picture). IsSynced p.chart) same good) (subst (λ (p : Picture). ShowsMemory p) same shows)))
 more start old new turns Sync reply t call (inr (is, same)) shows = absurd (false≢true (sym (ap (λ (p : Picture). p.chart.on) same) ∙ shows.0))
@@ -212,7 +212,7 @@ more start old new turns Sync reply t call (inr (is, same)) shows = absurd (fals
 pub lost : (start : Start) (old new : Picture) (turns : List KeepTurn) (line : KeepLine) (reply : KeepReply) → KeptSince start old turns → IsKeepLine line → AnswersKeep line reply old new → new.chart.on ≡ false → LostSince start new (record { line = line; replies = reply ∷ [] } ∷ turns)
 lost start old new turns (Trace line) reply t call (said, is, a) off =
     subst (λ (r : KeepReply). LostSince start new (record { line = Trace line; replies = r ∷ [] } ∷ turns)) (sym is) (trace-lost start old new turns line said t call a off)
-lost start old new turns Sync reply t call (inl (is, good, plans, given, same)) off = absurd (false≢true (sym off ∙ ap (λ (p : Picture). p.chart.on) same ∙ Stands.on (KeptSince.stands t)))
+lost start old new turns Sync reply t call (inl (is, good, sync, same)) off = absurd (false≢true (sym off ∙ ap (λ (p : Picture). p.chart.on) same ∙ Stands.on (KeptSince.stands t)))
 lost start old new turns Sync reply t call (inr (is, same)) off =
     subst (λ (r : KeepReply). LostSince start new (record { line = Sync; replies = r ∷ [] } ∷ turns)) (sym is)
     (subst (λ (p : Picture). LostSince start p (record { line = Sync; replies = TraceReply Lost ∷ [] } ∷ turns)) (sym same) (sync-lost start old turns t))

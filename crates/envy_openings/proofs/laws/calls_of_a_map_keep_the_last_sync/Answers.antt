@@ -1,4 +1,4 @@
-use Rattle.std.proofs.Common.{◌∙◌, sym}
+use Rattle.std.proofs.Common.{◌∙◌, ap, sym}
 use Rattle.envy_base.specs.State.{Notes}
 use Rattle.envy_index_calls.specs.Indexed.{Works}
 use Rattle.envy_synced.specs.Disk.{IsLast, IsBefore}
