@@ -1,7 +1,7 @@
 /* A memory for programs: a plain array of 64-bit words, with transactions and ordered maps. What it stands over is said
    when it is opened, and the calls are the same from then on:
    - a file that outlives the process and the machine: envy_open_file, or envy_open_disk over calls of the program's own;
-   - a file that the process maps: envy_open_mapped;
+   - a file that the process maps, which outlives the process: envy_open_mapped;
    - regions of memory that the program gives: envy_format_regions, envy_open_regions;
    - a board in memory whose power and flash operations can be made to fail: envy_open_sim, envy_restore.
 
@@ -11,17 +11,20 @@
    Transactions aren't hidden from one another: load and read see what any open transaction put; look sees what is
    committed; view sees what the transaction of one slot put, and else what is committed. Nothing waits.
 
-   What lasts. Of a file, what was there at the last envy_sync that answered ENVY_DONE: after a stop of the process or the
-   machine at any moment the file opens as the array of that sync or of a later one. Of regions, every word that was stored
-   and every transaction that was committed, as soon as the call has ended. Transactions that were open are undone.
+   What lasts. Of a file that isn't mapped, what was there at the last envy_sync that answered ENVY_DONE: after a stop of the
+   process or the machine at any moment the file opens as the array of that sync or of a later one. Of a mapped file and of
+   regions, every word that was stored and every transaction that was committed, as soon as the call has ended, if the
+   process stops. A machine that stops may leave a mapped file as it likes. Transactions that were open are undone.
 
-   ENVY_OFF: of a file, it failed; close it and open it again. Of a board that can be made to fail, power is off until
-   envy_revive answers ENVY_DONE. Regions never answer it. ENVY_BAD, that a flash operation failed and no word changed, is
-   answered by a board that can be made to fail alone. A call for another board than the memory's answers ENVY_OTHER_BOARD.
+   ENVY_OFF: of a file that isn't mapped, it failed; close it and open it again. Of a board that can be made to fail, power is
+   off until envy_revive answers ENVY_DONE. A mapped file and regions never answer it. ENVY_BAD, that a flash operation failed
+   and no word changed, is answered by a board that can be made to fail alone. A call for another board than the memory's
+   answers ENVY_OTHER_BOARD.
 
    What the program promises, and nothing checks:
    - It makes a handle with ENVY_INIT, and neither copies nor changes it.
-   - One call at a time uses a handle. It may use it from any thread if it orders the calls itself.
+   - One call at a time uses a handle. It may use it from any thread if it orders the calls itself. A process that was forked
+     off while a mapped file was open makes no call of it but envy_close.
    - Every pointer is to memory that is there, aligned, of the size that is said, and in no two arguments at once. None is
      NULL, also not that of no words, except `holder`, `done`, `before` and `rule`, if the program doesn't ask for them.
    - From the call that gives regions until envy_close, or until a call that gave them is refused, nobody else reads or
@@ -87,8 +90,10 @@ enum envy_open_flag {
 uint32_t envy_open_file(envy *m, const char *path, const envy_setup *setup, uint32_t flags);
 
 /* Opens the memory in the file at a path, which the process maps, and locks it. Its words outlive the process as soon as a
-   call has ended, and the machine from an envy_sync on. Of the flags ENVY_CREATE and ENVY_READ_SIZES are looked at. A new file
-   is there formatted or not at all. If the setup is NULL or one of zeros, the sizes are those of the file.
+   call has ended. The system writes them to the disk when and in which order it likes: so a machine that stops may leave the
+   file as it likes, except if nothing was changed since an envy_sync. Of the flags ENVY_CREATE and ENVY_READ_SIZES are looked
+   at. A new file is there formatted or not at all. If the setup is NULL or one of zeros, the sizes are those of the file.
+   Descriptors and access rights are as of envy_open_file.
    ENVY_DONE; ENVY_SYSTEM, with errno; ENVY_LOCKED; or what envy_new, envy_file_shape, envy_format_regions and
    envy_open_regions answer. Refused, the file is as before, and the handle holds none. */
 uint32_t envy_open_mapped(envy *m, const char *path, const envy_setup *setup, uint32_t flags);
@@ -107,7 +112,8 @@ uint32_t envy_open_disk(envy *m, const envy_setup *setup, const uint8_t *file, s
 uint32_t envy_file_shape(const char *path, envy_setup *setup);
 
 /* The errno of the call on the file after which calls answer ENVY_OFF, or 0: EFBIG also if the process may not make the file so
-   long, EPERM in a process that was forked off. Such a process has no file: each call that would write to it is ENVY_OFF. */
+   long, EPERM in a process that was forked off. Such a process has no file: each call that would write to it is ENVY_OFF. Of a
+   mapped file, and of a disk of the program's, it is 0. */
 int envy_file_error(const envy *m);
 
 /* How many bytes the file of a memory has that was opened by its path, or 0. */
@@ -136,7 +142,8 @@ uint32_t envy_open_port(envy *m, const envy_setup *setup, const uint8_t *file, s
 /* How many of the n bytes of a file opening it cuts off, if they hold what reads as a sync; else 0. */
 uint64_t envy_journal_cut(const uint8_t *file, size_t n);
 
-/* Writes how many bytes the board of a memory in a file takes from the heap. ENVY_DONE, ENVY_POLICY or an ENVY_SETUP_*. */
+/* Writes how many bytes the rows, the SRAM and the counts of erases of a memory in a file take from the heap; beside them it
+   takes one for each row, and the tables of its parts. ENVY_DONE, ENVY_POLICY or an ENVY_SETUP_*. */
 uint32_t envy_board_size(const envy_setup *setup, uint64_t *bytes);
 
 /* Brings all that a memory in a file holds to the disk, with what open transactions put. ENVY_DONE: it is there.
@@ -146,7 +153,7 @@ uint32_t envy_board_size(const envy_setup *setup, uint64_t *bytes);
 uint32_t envy_sync(envy *m);
 
 /* A sync that leaves in the file no more than what the board holds takes. As envy_sync; ENVY_APPENDED if the second file
-   failed before it was put there: then it was done as a sync, and the memory goes on. */
+   failed before it was put there: then it was done as a sync, and the memory goes on. A mapped file keeps its size. */
 uint32_t envy_compact(envy *m);
 
 /* Whether the memory has power: ENVY_DONE, ENVY_EMPTY, or ENVY_OFF. */

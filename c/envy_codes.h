@@ -64,7 +64,7 @@ enum envy_code {
     ENVY_BROKEN_UNDOS = 42,      /* an undo names a slot that isn't in use */
     ENVY_BROKEN_RESERVES = 63,   /* a kept row lies in a segment in reserve */
 
-    /* images; never over regions */
+    /* images */
     ENVY_SMALL = 43,       /* the bytes have no room for the image */
     ENVY_IMAGE_SHORT = 44, /* the bytes end within the image */
     ENVY_IMAGE_MARK = 45,  /* the bytes don't begin with the mark of an image */

@@ -40,7 +40,6 @@ OPENING(open_regions, (envy *m, const envy_setup *setup, envy_rows flash, envy_w
 OPENING(open_sim, (envy *m, const envy_setup *setup, uint32_t lives), (m, setup, lives))
 OPENING(restore, (envy *m, const envy_setup *setup, uint32_t lives, const uint8_t *image, size_t n), (m, setup, lives, image, n))
 CALL(save, (envy *m, uint8_t *image, size_t n), (m, image, n))
-CALL(compact, (envy *m), (m))
 CALL(powered, (envy *m), (m))
 CALL(arm_cut, (envy *m, uint32_t k, uint64_t g), (m, k, g))
 CALL(arm_bad, (envy *m, uint32_t k, uint64_t g), (m, k, g))

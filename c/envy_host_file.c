@@ -233,7 +233,12 @@ static int renamed(envy_served *f) {
         errno = ENOENT;
         return ENVY_NOT_REPLACED;
     }
-    if (rename(f->beside, f->path)) return envy_host_is_named(f->path, f->descriptor) ? ENVY_NOT_REPLACED : envy_host_failed(f);
+    if (rename(f->beside, f->path)) {
+        int error = errno;
+        int stays = envy_host_is_named(f->path, f->descriptor);
+        errno = error;
+        return stays ? ENVY_NOT_REPLACED : envy_host_failed(f);
+    }
     if (!fstat(f->second, &second)) (void)!fchmod(f->second, second.st_mode & RIGHTS);
     return 0;
 }

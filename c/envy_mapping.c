@@ -12,15 +12,15 @@
 #include <sys/stat.h>
 #include <unistd.h>
 
-enum { WORD = 8, ROW_WORDS = 32 };
+/* PIECE_ROWS: how many rows are read at once while a shape is looked for. */
+enum { WORD = 8, ROW_WORDS = 32, PIECE_ROWS = 64 };
 
 /* How many names a file may have while it is made, and the room for what makes them differ. */
 enum { NAMES = 100, NUMBERS = 40 };
 
 typedef uint32_t open_regions(envy *, const envy_setup *, envy_rows, envy_words, envy_words);
 
-/* Has a call take up what stands in the mapped words: as much of each region as is there, and what is too much belongs
-   to the last. */
+/* Has a call format or open the mapped words: each region gets as much as is there, and the last one what is too much. */
 static uint32_t opened(envy_mapping *f, const envy_setup *setup, const envy_sizes *sizes, open_regions *call) {
     uint64_t *at = f->at;
     size_t words = f->bytes / WORD;
@@ -33,7 +33,7 @@ static uint32_t opened(envy_mapping *f, const envy_setup *setup, const envy_size
     return call(&f->memory, setup, flash, sram, erases);
 }
 
-/* Maps the file that was opened, and has a call take up what stands there. */
+/* Maps the file that was opened, and has a call format or open it. */
 static uint32_t mapped(envy_mapping *f, const envy_setup *setup, const envy_sizes *sizes, open_regions *call) {
     struct stat found;
     if (fstat(f->descriptor, &found)) return ENVY_SYSTEM;
@@ -57,7 +57,7 @@ static uint32_t locked(int descriptor) {
     return errno == EWOULDBLOCK ? ENVY_LOCKED : ENVY_SYSTEM;
 }
 
-/* Takes the lock of the file that was opened, maps it, and has a call take up what stands there. */
+/* Takes the lock of the file that was opened, maps it, and has a call format or open it. */
 static uint32_t taken(envy_mapping *f, const envy_setup *setup, const envy_sizes *sizes, open_regions *call) {
     uint32_t code = locked(f->descriptor);
     return code == ENVY_DONE ? mapped(f, setup, sizes, call) : code;
@@ -139,36 +139,46 @@ uint32_t envy_mapping_open(envy_mapping *f, const char *path, const envy_setup *
     return code;
 }
 
-/* The SRAM lies behind the flash, whose rows its first words tell: so it is where they tell just the rows before it,
-   and where the words in all are those of the setup. */
-static uint32_t found(const uint64_t *at, size_t words, envy_setup *setup) {
+/* Finds the SRAM, which lies after the flash: its first words name the number of rows. So it begins at a row if they name the
+   number of rows before it, and if the words of the whole file are those of that setup. */
+static uint32_t found(int descriptor, size_t words, envy_setup *setup) {
+    uint64_t piece[PIECE_ROWS * ROW_WORDS];
     uint32_t why = ENVY_UNFORMATTED;
-    for (size_t rows = 1; rows * ROW_WORDS < words; rows++) {
-        envy_setup told;
-        envy_sizes sizes;
-        uint32_t code = envy_sram_shape(at + rows * ROW_WORDS, words - rows * ROW_WORDS, &told);
-        if (code == ENVY_OLDER) why = code;
-        if (code != ENVY_DONE || envy_region_sizes(&told, &sizes) != ENVY_DONE || sizes.rows != rows) continue;
-        if (sizes.rows * ROW_WORDS + sizes.words + sizes.erases != words) continue;
-        *setup = told;
-        return ENVY_DONE;
+    for (size_t first = 0; first * ROW_WORDS < words; first += PIECE_ROWS) {
+        /* (read, since a file that is mapped and cut meanwhile ends the process) */
+        ssize_t got = pread(descriptor, piece, sizeof piece, (off_t)(first * ROW_WORDS * WORD));
+        if (got < 0 && errno == EINTR) {
+            first -= PIECE_ROWS;
+            continue;
+        }
+        if (got < 0) return ENVY_SYSTEM;
+        size_t there = (size_t)got / WORD;
+        for (size_t at = first ? 0 : ROW_WORDS; at < there; at += ROW_WORDS) {
+            envy_setup told;
+            envy_sizes sizes;
+            size_t rows = first + at / ROW_WORDS;
+            uint32_t code = envy_sram_shape(piece + at, there - at, &told);
+            if (code == ENVY_OLDER) why = code;
+            if (code != ENVY_DONE || envy_region_sizes(&told, &sizes) != ENVY_DONE || sizes.rows != rows) continue;
+            if (sizes.rows * ROW_WORDS + sizes.words + sizes.erases != words) continue;
+            *setup = told;
+            return ENVY_DONE;
+        }
+        if (!got) break;
     }
     return why;
 }
 
 uint32_t envy_mapping_shape(const char *path, envy_setup *setup) {
-    int descriptor = open(path, O_RDONLY | O_CLOEXEC);
+    /* (so that a pipe isn't waited for) */
+    int descriptor = open(path, O_RDONLY | O_CLOEXEC | O_NONBLOCK);
     if (descriptor < 0) return ENVY_SYSTEM;
     struct stat about;
     uint32_t code = ENVY_SYSTEM;
     if (!fstat(descriptor, &about)) {
         size_t bytes = (size_t)about.st_size;
         code = ENVY_UNFORMATTED;
-        if (bytes && bytes % WORD == 0) {
-            void *at = mmap(NULL, bytes, PROT_READ, MAP_SHARED, descriptor, 0);
-            code = at == MAP_FAILED ? ENVY_SYSTEM : found(at, bytes / WORD, setup);
-            if (at != MAP_FAILED) munmap(at, bytes);
-        }
+        if (bytes && bytes % WORD == 0) code = found(descriptor, bytes / WORD, setup);
     }
     int why = errno;
     close(descriptor);

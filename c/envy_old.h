@@ -1,5 +1,6 @@
 /* The earlier names of what envy.h has, for one version: a program that includes envy_kept.h, envy_kept_file.h, envy_mapped.h,
-   envy_file.h, envy_sim.h or one of their maps includes this, and links libenvy. */
+   envy_file.h, envy_sim.h or one of their maps includes this, and links libenvy.a. The shared object doesn't
+   show the calls on files that these names need. */
 #ifndef ENVY_OLD_H
 #define ENVY_OLD_H
 

@@ -45,9 +45,15 @@ static int is_new(const char *path) {
 
 typedef uint32_t shape_of(const char *path, envy_setup *setup);
 
+/* Whether a setup is given that is neither NULL nor one of zeros. */
+static int has_numbers(const envy_setup *given) {
+    return given && (given->segments || given->rows || given->pages || given->shadows || given->frames || given->entries ||
+                     given->policy || given->part || given->limit || given->mark || given->reserves || given->sums);
+}
+
 /* Chooses the setup of a file: the given one, or its own sizes if these are asked for, or if no setup is given. */
 static uint32_t chosen(const char *path, const envy_setup *given, uint32_t flags, shape_of *shape, envy_setup *setup) {
-    int is_given = given && (given->segments || given->rows || given->pages);
+    int is_given = has_numbers(given);
     if (is_given && (!(flags & ENVY_READ_SIZES) || is_new(path))) {
         *setup = *given;
         return ENVY_DONE;
@@ -114,6 +120,13 @@ uint32_t envy_sync(envy *m) {
     envy_held *f = m->file;
     if (!m->at) return ENVY_EMPTY;
     return f && f->kind == MAPPED ? envy_mapping_sync(&f->of.mapping) : envy_proved_sync(m);
+}
+
+/* (a mapped file keeps its size, so a compaction of it is a sync) */
+uint32_t envy_compact(envy *m) {
+    envy_held *f = m->file;
+    if (!m->at) return ENVY_EMPTY;
+    return f && f->kind == MAPPED ? envy_mapping_sync(&f->of.mapping) : envy_proved_compact(m);
 }
 
 /* Ends the memory, and gives up what its file took. */

@@ -21,7 +21,9 @@ static int named(envy_served *f, const char *path) {
 
 /* Opens the file, or makes an empty one if that is asked for, unless it is opened for reading alone. */
 static int open_or_make(envy_served *f, const char *path, uint32_t flags, int *is_made) {
-    f->descriptor = above_standard_streams(open(path, (f->reading ? O_RDONLY : O_RDWR) | O_CLOEXEC));
+    /* (so that a pipe isn't waited for) */
+    int mode = f->reading ? O_RDONLY | O_NONBLOCK : O_RDWR;
+    f->descriptor = above_standard_streams(open(path, mode | O_CLOEXEC));
     if (f->descriptor < 0 && errno == ENOENT && !f->reading && flags & ENVY_CREATE) {
         f->descriptor = above_standard_streams(open(path, O_RDWR | O_CREAT | O_CLOEXEC, 0666));
         *is_made = f->descriptor >= 0;

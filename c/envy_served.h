@@ -59,6 +59,7 @@ int envy_served_error(const envy_served *f);
 /* The calls of the memory alone, without its file, and on a handle that has a place. */
 uint32_t envy_proved_open_port(envy *m, const envy_setup *setup, const uint8_t *file, size_t n, int32_t port, uint32_t bytewise);
 uint32_t envy_proved_sync(envy *m);
+uint32_t envy_proved_compact(envy *m);
 void envy_proved_close(envy *m);
 
 #ifdef __cplusplus

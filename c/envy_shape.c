@@ -34,6 +34,9 @@ static uint32_t head_of(int descriptor, uint8_t *head) {
     return ENVY_DONE;
 }
 
+/* What a head doesn't tell of a setup, as envy_sram_shape has it. */
+enum { USUAL_PART = 2, USUAL_LIMIT = 100 };
+
 /* The setup that a head tells. */
 static uint32_t told(const uint8_t *head, envy_setup *setup) {
     if (memcmp(head, JOURNAL_MARK, MARK_BYTES)) return ENVY_NO_JOURNAL;
@@ -46,8 +49,8 @@ static uint32_t told(const uint8_t *head, envy_setup *setup) {
         .frames = size_at(head, 4),
         .entries = size_at(head, 5),
         .policy = ENVY_GREEDY,
-        .part = 2,
-        .limit = 100,
+        .part = USUAL_PART,
+        .limit = USUAL_LIMIT,
         .mark = size_at(head, 4),
     };
     uint64_t bytes;

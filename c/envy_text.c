@@ -81,7 +81,7 @@ const char *envy_error_text(uint32_t code) {
     case ENVY_APPENDED: return "synced, but not compacted: no second file could be written";
     case ENVY_OTHER_BOARD: return "what the memory stands over can't do this";
     case ENVY_SYSTEM: return "the system refused a call";
-    case ENVY_LOCKED: return "another process has the file open";
+    case ENVY_LOCKED: return "the file is open already, here or in another process";
     case ENVY_TOO_MANY: return "too many files are open";
     }
     return "no code of this library";

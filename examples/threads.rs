@@ -41,7 +41,7 @@ fn run(path: &str) -> Result<u64, Error> {
     let memory = Mutex::new(memory);
     thread::scope(|scope| {
         let threads: Vec<_> = (0..THREADS).map(|n| scope.spawn({ let memory = &memory; move || work(memory, n) })).collect();
-        threads.into_iter().try_for_each(|it| it.join().unwrap_or(Ok(())))
+        threads.into_iter().try_for_each(|it| it.join().expect("a thread panicked"))
     })?;
     let memory = memory.into_inner().unwrap_or_else(PoisonError::into_inner);
     memory.sync()?;

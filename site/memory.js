@@ -25,9 +25,12 @@ export async function loadModule(url) {
 // Handles that no memory uses now, each with room for what its calls read and write.
 const places = [];
 
+// A handle is two pointers; answers are written into this much room.
+const HANDLE_BYTES = 16, ROOM_BYTES = 64;
+
 function newPlace(calls) {
-  const at = calls.envy_page_room(16n), room = calls.envy_page_room(64n);
-  new Uint8Array(calls.memory.buffer, Number(at), 16).fill(0);
+  const at = calls.envy_page_room(BigInt(HANDLE_BYTES)), room = calls.envy_page_room(BigInt(ROOM_BYTES));
+  new Uint8Array(calls.memory.buffer, Number(at), HANDLE_BYTES).fill(0);
   if (calls.envy_new(at) !== DONE) throw new Error("out of memory");
   return { at, room };
 }

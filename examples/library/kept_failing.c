@@ -325,8 +325,8 @@ static void answers(void) {
     WANT(envy_powered(&m), ENVY_EMPTY);
     envy_close(&m);
     WANT(envy_board_size(&setup, &bytes), ENVY_DONE);
-    /* 32 rows of 256 bytes; 71 + 3*4 + 2*6 + 32 + 8 + 32*3 words of SRAM; 4 counts */
-    WANT(bytes, 32 * 256 + 8 * (71 + 12 + 12 + 32 + 8 + 96) + 8 * 4);
+    /* 32 rows of 256 bytes and a mark; 71 + 3*4 + 2*6 + 32 + 8 + 32*3 words of SRAM; 4 counts */
+    WANT(bytes, 32 * 257 + 8 * (71 + 12 + 12 + 32 + 8 + 96) + 8 * 4);
 
     first.n = 0;
     setups();

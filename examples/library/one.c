@@ -142,6 +142,9 @@ static void opened_in_each_way(envy *m, const char *path) {
     is("its end", envy_close(m), ENVY_DONE);
     other.mark = 0;
     is("a rule that the setup breaks", envy_open_file(m, path, &other, ENVY_READ_SIZES), ENVY_SETUP_MARK);
+    static const envy_setup rules = {.policy = ENVY_FIFO, .limit = 100};
+    is("a rule that a setup without sizes breaks", envy_open_file(m, path, &rules, ENVY_READ_SIZES), ENVY_SETUP_MARK);
+    is("a setup without sizes", envy_open_file(m, path, &rules, 0), ENVY_SETUP_SEGMENTS);
     is("no file to have sizes of", envy_open_file(m, "/nowhere/at/all", NULL, ENVY_CREATE), ENVY_SYSTEM);
     is("a refused place", envy_load(m, 5, &(uint64_t){0}), ENVY_EMPTY);
 }
@@ -224,6 +227,7 @@ static void over_a_mapped_file(envy *m, const char *path) {
     work("a mapped file", m);
     keep_pairs("a mapped file's map", m);
     refuses_failures("a mapped file", m);
+    is("its compaction", envy_compact(m), ENVY_DONE);
     is("its end", envy_close(m), ENVY_DONE);
     is("its shape", envy_file_shape(path, &shape), ENVY_DONE);
     is("a mapped file as a kept one", envy_open_file(m, path, &setup, 0), ENVY_NO_JOURNAL);

@@ -36,15 +36,15 @@ pub enum Error {
     ErasesSize,
     /// No policy has the setup's number.
     Policy,
-    /// The file isn't formatted.
+    /// What a mapped file, regions or an image holds isn't formatted.
     Unformatted,
-    /// The file is of an older version.
+    /// What was found is of an older version.
     Older,
-    /// The file has another shape than the setup.
+    /// What was found has another shape than the setup.
     OtherShape,
     /// The setup breaks this rule.
     Setup(Rule),
-    /// The file is damaged: the first point of soundness that fails.
+    /// What was found is damaged: the first point of soundness that fails.
     Damaged(Point),
     /// The map has as many pairs as it may have.
     MapFull,
@@ -59,7 +59,7 @@ pub enum Error {
     /// The file failed, for this reason: open it again. Or power is off or failed in the call, of a board that can be made to
     /// fail.
     Off(io::Error),
-    /// The file holds no memory. Of kept files alone.
+    /// The file holds no memory: of a file that is kept, and of either kind as [`Setup::of_file`](crate::Setup::of_file) looks.
     NoJournal,
     /// The file is a journal of another version. Of kept files alone.
     OtherJournal,
@@ -293,7 +293,7 @@ impl std::error::Error for Error {
 
 impl fmt::Display for Stopped {
     fn fmt(&self, f: &mut fmt::Formatter<'_>) -> fmt::Result {
-        write!(f, "behind {} words: {}", self.done, self.error)
+        write!(f, "after {} words: {}", self.done, self.error)
     }
 }
 

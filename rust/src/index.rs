@@ -19,7 +19,7 @@ impl Index {
     ///
     /// # Errors
     ///
-    /// `MapSetup`: a map needs 20 pages and 32 shadows. `SlotOpen`, where a transaction was forgotten and never ended.
+    /// `MapSetup`: a map needs 20 pages and 32 shadows. `SlotOpen`, if a transaction was forgotten and never ended.
     pub fn create(memory: Memory) -> Result<Index, Error> {
         let index = Index { memory };
         index.check(index.memory.index_create())?;

@@ -56,7 +56,7 @@ impl Memory {
         self.handle.get()
     }
 
-    /// The error of a number other than that of a call that was done. A file tells why it failed.
+    /// The error of a number other than that of a call that was done. A file has the reason for which it failed.
     pub(crate) fn error(&self, code: u32, holder: u32) -> Error {
         if code != sys::OFF {
             return Error::of(code, holder);
@@ -105,7 +105,7 @@ impl Memory {
         Ok(word)
     }
 
-    /// Fills `words` with those from an address on, which so many loads would give. It counts one access for each of
+    /// Fills `words` with those from an address on, each as a load gives it. It counts one access for each of
     /// their pages.
     ///
     /// # Errors
@@ -237,7 +237,7 @@ impl Memory {
         self.check(unsafe { sys::envy_compact(self.handle()) })
     }
 
-    /// Syncs a file and ends the memory, as dropping it does, and tells whether the sync was done.
+    /// Syncs a file and ends the memory, as dropping it does, and reports whether the sync was done.
     ///
     /// # Errors
     ///

@@ -13,7 +13,7 @@ pub enum Policy {
     Greedy,
     Fifo,
     Locality,
-    /// By partitions of so many positions.
+    /// By partitions of this number of positions.
     Hybrid(u32),
     Lifetime,
 }
@@ -35,12 +35,12 @@ pub struct Setup {
 }
 
 impl Setup {
-    /// A setup for an array of at least so many words, whose open transactions own at most so many pages together, at a
-    /// use of at most 80 rows in 100.
+    /// A setup for an array of at least `words` words, whose open transactions own at most `owned_pages` pages together. At
+    /// most 80 rows in 100 are in use.
     ///
     /// # Errors
     ///
-    /// `Setup`, where it is for no words, or for more than flash may have.
+    /// `Setup`, if it is for no words, or for more than flash may have.
     pub fn for_words(words: u64, owned_pages: u32) -> Result<Setup, Error> {
         let mut found = sys::Setup::default();
         // SAFETY: the pointer is to a setup of this call's.

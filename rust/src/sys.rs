@@ -53,7 +53,7 @@ pub struct Pair {
     pub value: u64,
 }
 
-/// The value that a key had, where it had one.
+/// The value that a key had, if it had one.
 #[repr(C)]
 #[derive(Clone, Copy, Default)]
 pub struct Old {

@@ -12,7 +12,7 @@ pub struct Transaction<'m> {
 }
 
 impl Transaction<'_> {
-    /// The slot, which [`Error::Held`] tells others.
+    /// The slot. [`Error::Held`] reports it to others.
     pub fn slot(&self) -> u32 {
         self.slot
     }

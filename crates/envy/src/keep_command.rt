@@ -3,17 +3,16 @@
 ghost use Rattle.std.specs.Prelude.{◌≡◌, ◌≢◌, ◌≤◌, IfOk, IsErr, IsOk};
 ghost use Rattle.envy_device.specs.Device.{Only};
 ghost use Rattle.envy_hostfile.specs.Host.{host_bytes, host_outcome};
-ghost use Rattle.envy_hostfile.specs.declared.opening.OpenFault.TheVariants.{Unreadable, NotMade, InUse, NoJournal, Memory as OfMemory};
+ghost use Rattle.envy_hostfile.specs.declared.opened_file.OpenFault.TheVariants.{Unreadable, NotMade, InUse, NoJournal, Memory as OfMemory};
 ghost use Rattle.envy_serve.specs.Ends.{most_bytes};
 
 use crate::streams::{AskedSource, HeldSink, StdSink, StdSource};
 use crate::{NO_MEMORY, WRITE_FAULT};
 use envy_args::{KeepWords, WordsFault, read_keep};
 use envy_hostfile::{HostFile, Names, OpenFault, open};
-use envy_io::{Failed, Sink};
+use envy_io::{BufferedSink, BufferedSource, Failed, NoMemory, Sink};
 use envy_journal::cut_batch;
 use envy_keep::{KeepEnded, keep};
-use envy_streams::{BufferedSink, BufferedSource, NoMemory};
 use std::cell::RefCell;
 use std::fs::File;
 

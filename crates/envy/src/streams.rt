@@ -4,8 +4,7 @@ ghost use Rattle.std.specs.Prelude.{◌≡◌, ◌<◌, ◌≤◌, IfOk, length}
 ghost use Rattle.envy_io.specs.Streams.{Fills, Writes, Flushes};
 ghost use Rattle.envy.specs.Standard.{input_feed, output_drain, untold_drain};
 
-use envy_io::{Failed, Sink, Source};
-use envy_streams::BufferedSink;
+use envy_io::{BufferedSink, Failed, Sink, Source};
 use std::cell::RefCell;
 use std::io::{Read, Stdin, Stdout};
 

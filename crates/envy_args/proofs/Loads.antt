@@ -1,8 +1,8 @@
 -- The rules of a load.
 use Rattle.std.proofs.Common.{◌≡◌, ◌∙◌, ◌↔◌, ℕ, ◌<◌, ◌≤◌, Bool, true, false, IsTrue, nat_le, codes, Ok, Err, ap, sym, refl, lt-ltb, le-ltb, true≢false, leb-true, le-leb, if◌then◌else◌}
 use Rattle.std.proofs.lemmas.Bool.{and_from, and_parts, false_from_ne_true}
-use Rattle.envy_base.specs.Area.{Fits}
-use Rattle.envy_base.specs.declared.area.Area.{Area}
+use Rattle.envy_array.specs.Area.{Fits}
+use Rattle.envy_array.specs.declared.area.Area.{Area}
 use Rattle.envy_policy.specs.declared.setup.Setup.{Setup}
 use Rattle.envy_args.specs.declared.command.Command.TheVariants.{Tpca}
 use Rattle.envy_args.specs.declared.command.WordsFault.{WordsFault}

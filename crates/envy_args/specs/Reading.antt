@@ -7,7 +7,7 @@ use Rattle.envy_args.specs.declared.command.WordsFault.{WordsFault}
 use Rattle.envy_args.specs.declared.command.WordsFault.TheVariants.{Form}
 use Rattle.envy_args.specs.Words.{Text, Options, is_number, is_value, value_of, run_of, plain_of, tpca_of, gen_of, save_of, resume_of, audit_of, segments_of, index_of, mirror_of, run_options, index_options, plain_options, tpca_options, gen_options, resume_options, audit_options}
 use Rattle.envy_args.specs.declared.word.Word.{Word}
-use Rattle.envy_args.specs.declared.word.Word.TheVariants.{Run, Plain, Tpca, Gen, Save, Resume, Audit, Segments, Index, Mirror}
+use Rattle.envy_args.specs.declared.word.Word.TheVariants.{Run, Plain, Tpca, Gen, Save, Resume, Audit, Map, Index, Mirror}
 
 -- the text of a command word
 abbrev pub word_of : Word → Text
@@ -18,12 +18,12 @@ word_of Gen = codes "gen"
 word_of Save = codes "save"
 word_of Resume = codes "resume"
 word_of Audit = codes "audit"
-word_of Segments = codes "map"
+word_of Map = codes "map"
 word_of Index = codes "index"
 word_of Mirror = codes "mirror"
 
 abbrev pub all : List Word
-all = Run ∷ Plain ∷ Tpca ∷ Gen ∷ Save ∷ Resume ∷ Audit ∷ Segments ∷ Index ∷ Mirror ∷ []
+all = Run ∷ Plain ∷ Tpca ∷ Gen ∷ Save ∷ Resume ∷ Audit ∷ Map ∷ Index ∷ Mirror ∷ []
 
 -- the names of its options
 abbrev pub options_of : Word → List Text
@@ -34,7 +34,7 @@ options_of Gen = gen_options
 options_of Save = run_options
 options_of Resume = resume_options
 options_of Audit = audit_options
-options_of Segments = audit_options
+options_of Map = audit_options
 options_of Index = index_options
 options_of Mirror = run_options
 
@@ -76,6 +76,6 @@ make_of Gen = gen_of
 make_of Save = save_of
 make_of Resume = resume_of
 make_of Audit = audit_of
-make_of Segments = segments_of
+make_of Map = segments_of
 make_of Index = index_of
 make_of Mirror = mirror_of

@@ -4,9 +4,9 @@ use Rattle.std.specs.List.{list_any, list_all, starts_with, before_first, after_
 use Rattle.std.specs.Option.{option_map, option_map_or, option_and_then}
 use Rattle.std.specs.Str.{bytes_eq, all_ascii_digits}
 use Rattle.std.specs.Str.Parse.{digits_value}
-use Rattle.envy_base.specs.declared.area.Area.{Area}
+use Rattle.envy_array.specs.declared.area.Area.{Area}
 use Rattle.envy_base.specs.declared.shape.Shape.{Shape}
-use Rattle.envy_base.specs.Area.{history_at}
+use Rattle.envy_array.specs.Area.{history_at}
 use Rattle.envy_policy.specs.declared.setup.Policy.{Policy}
 use Rattle.envy_gen.specs.declared.mix.Mix.{Mix}
 use Rattle.envy_gen.specs.declared.mix.Skew.{Skew}
@@ -15,7 +15,7 @@ use Rattle.envy_policy.specs.declared.setup.Setup.{Setup}
 use Rattle.envy_policy.specs.declared.setup.SetupFault.{SetupFault}
 use Rattle.envy_policy.specs.Setup.{checked_within, rule_of}
 use Rattle.envy_args.specs.declared.command.Command.{Command}
-use Rattle.envy_args.specs.declared.command.Command.TheVariants.{Run, Plain, Tpca, Gen, Save, Resume, Audit, Segments, Index, Mirror}
+use Rattle.envy_args.specs.declared.command.Command.TheVariants.{Run, Plain, Tpca, Gen, Save, Resume, Audit, Map, Index, Mirror}
 use Rattle.envy_args.specs.declared.read.TheConstants.{USUAL_ROWS}
 use Rattle.envy_args.specs.declared.command.WordsFault.{WordsFault}
 use Rattle.envy_args.specs.declared.command.WordsFault.TheVariants.{Form, Setup as Rule}
@@ -279,7 +279,7 @@ abbrev pub audit_of : Options → Result Command WordsFault
 audit_of options = Ok (Audit (most_rows options))
 
 abbrev pub segments_of : Options → Result Command WordsFault
-segments_of options = Ok (Segments (most_rows options))
+segments_of options = Ok (Map (most_rows options))
 
 abbrev pub tree_of : Setup → Options → Result Command WordsFault
 tree_of setup options =

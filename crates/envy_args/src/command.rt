@@ -1,4 +1,4 @@
-use envy_base::Area;
+use envy_array::Area;
 use envy_gen::Mix;
 use envy_policy::{Policy, Setup};
 
@@ -47,7 +47,7 @@ pub enum Command {
         most: u32,
     },
     /// Read an image of at most so many rows, and tell its segments.
-    Segments {
+    Map {
         most: u32,
     },
     /// Keep an index tree in the memory: a trace of its operations is answered.

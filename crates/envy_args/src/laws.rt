@@ -1,8 +1,8 @@
 ghost use Rattle.std.specs.Prelude.{◌≡◌, ◌↔◌, ℕ, None, [], ◌∷◌, codes, Ok, Err, IsTrue};
-ghost use Rattle.envy_base.specs.Area.{Fits};
-ghost use Rattle.envy_base.specs.declared.area.Area.{Area};
+ghost use Rattle.envy_array.specs.Area.{Fits};
+ghost use Rattle.envy_array.specs.declared.area.Area.{Area};
 ghost use Rattle.envy_policy.specs.declared.setup.Policy.TheVariants.{Greedy};
-ghost use Rattle.envy_args.specs.declared.command.Command.TheVariants.{Run, Resume, Audit, Segments};
+ghost use Rattle.envy_args.specs.declared.command.Command.TheVariants.{Run, Resume, Audit, Map};
 ghost use Rattle.envy_args.specs.declared.command.WordsFault.TheVariants.{Form, Setup as Rule};
 ghost use Rattle.envy_args.specs.Words.{command_of, fits, usual};
 
@@ -35,7 +35,7 @@ pub fn words_name_commands()
         ≡ Err (Rule 17)) }
     ensures transfers { command_of (codes "tpca" ∷ codes "--transfers" ∷ codes "1070" ∷ []) ≡ Err (Rule 11) }
     ensures judged { (command_of (codes "audit" ∷ []) ≡ Ok (Audit USUAL_ROWS))
-        × (command_of (codes "map" ∷ []) ≡ Ok (Segments USUAL_ROWS)) }
+        × (command_of (codes "map" ∷ []) ≡ Ok (Map USUAL_ROWS)) }
     ensures open { command_of (codes "resume" ∷ []) ≡ Ok (Resume Greedy 100 None 4294967295 USUAL_ROWS) }
     ensures tree { command_of (codes "index" ∷ codes "--pages=19" ∷ codes "--shadows=31" ∷ []) ≡ Err (Rule 13) }
     ensures heap { command_of (codes "index" ∷ codes "--pages=19" ∷ []) ≡ Err (Rule 14) }

@@ -6,7 +6,8 @@ ghost use Rattle.envy_args.specs.Reading.{GivesIf, has_number, are_readable, sha
 use crate::command::{Command, WordsFault};
 use crate::options::Options;
 use crate::word::Word;
-use envy_base::{Area, MOST_ROWS, Shape};
+use envy_array::Area;
+use envy_base::{MOST_ROWS, Shape};
 use envy_gen::{Mix, Skew};
 use envy_policy::{Setup, SetupFault};
 use std::alloc::Global;
@@ -108,7 +109,7 @@ fn make(word: Word, options: &Options) -> Result<Command, WordsFault>
         Word::Save => save(options),
         Word::Resume => resume(options),
         Word::Audit => audit(options),
-        Word::Segments => segments(options),
+        Word::Map => segments(options),
         Word::Index => index(options),
         Word::Mirror => mirror(options),
     }
@@ -180,7 +181,7 @@ fn segments(options: &Options) -> Result<Command, WordsFault>
     ensures { result ≡ made audit_options segments_of options.now }
 {
     let most = most_rows(options)?;
-    Ok(Command::Segments { most })
+    Ok(Command::Map { most })
 }
 
 fn plain(options: &Options) -> Result<Command, WordsFault>

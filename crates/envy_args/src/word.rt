@@ -10,7 +10,7 @@ pub(crate) enum Word {
     Save,
     Resume,
     Audit,
-    Segments,
+    Map,
     Index,
     Mirror,
 }
@@ -52,7 +52,7 @@ impl Word {
         Word::Save,
         Word::Resume,
         Word::Audit,
-        Word::Segments,
+        Word::Map,
         Word::Index,
         Word::Mirror,
     ];
@@ -68,7 +68,7 @@ impl Word {
             Word::Save => b"save",
             Word::Resume => b"resume",
             Word::Audit => b"audit",
-            Word::Segments => b"map",
+            Word::Map => b"map",
             Word::Index => b"index",
             Word::Mirror => b"mirror",
         }
@@ -92,7 +92,7 @@ impl Word {
             Word::Tpca => &OPTIONS,
             Word::Gen => &["start", "lines", "pages", "hot", "share", "stores"],
             Word::Resume => &OPTIONS[7..13],
-            Word::Audit | Word::Segments => &OPTIONS[12..13],
+            Word::Audit | Word::Map => &OPTIONS[12..13],
         }
     }
 }

@@ -7,7 +7,7 @@ use Rattle.envy_base.specs.declared.fields.Place.{Place}
 use Rattle.envy_base.specs.declared.fields.Undo.{Undo}
 use Rattle.envy_base.specs.State.{State, IsBoard}
 use Rattle.envy_map.specs.Fields.{chart, place, undo}
-use Rattle.envy_layout.specs.Sound.{slot_named, owned_by}
+use Rattle.envy_soundness.specs.Sound.{slot_named, owned_by}
 use Rattle.envy_audit.specs.Points.{FewAreOwned}
 use Rattle.envy_map.proofs.Sizes.{length-places, length-undos}
 

@@ -10,8 +10,8 @@ use Rattle.envy_base.specs.declared.fields.Undo.{Undo}
 use Rattle.envy_base.specs.declared.fields.Undo.TheVariants.{Clear, Blank, Shadow}
 use Rattle.envy_base.specs.State.{State, IsBoard}
 use Rattle.envy_map.specs.Fields.{Fields, chart, place, undo, slot}
-use Rattle.envy_layout.specs.Words.{kept, kept_by}
-use Rattle.envy_layout.specs.Sound.{Names, slots_of}
+use Rattle.envy_soundness.specs.Words.{kept, kept_by}
+use Rattle.envy_soundness.specs.Sound.{Names, slots_of}
 use Rattle.envy_audit.specs.Points.{Decodes, RowsDiffer, IsPlaceOf, IsUndoOf, rows_of}
 use Rattle.envy_audit.specs.Tables.{NotesOwners, Notes}
 use Rattle.envy_audit.proofs.Looking.{place-within, undo-within}

@@ -16,7 +16,7 @@ use Rattle.envy_base.specs.State.{State, IsBoard}
 use Rattle.envy_map.specs.Fields.{chart, place, undo}
 use Rattle.envy_map.proofs.Sizes.{length-slots, length-undos, length-places, length-wears, length-fills, length-positions, length-backs, length-origins, length-frames}
 use Rattle.envy_base.specs.Shape.{all_positions_of, positions_of}
-use Rattle.envy_layout.specs.Sound.{IsSound, IsPlaced, IsReserved, IsSpare, slots_of, slot_named, Names}
+use Rattle.envy_soundness.specs.Sound.{IsSound, IsPlaced, IsReserved, IsSpare, slots_of, slot_named, Names}
 use Rattle.envy_audit.specs.declared.verdict.Rule.{Rule}
 use Rattle.envy_audit.specs.declared.verdict.Rule.TheVariants.{A, B, C, D, E, F, G, H, I, J, K, L, M}
 use Rattle.envy_audit.specs.Points.{Decodes, IsJobOf, IsPlaceOf, IsUndoOf, rows_of, JobStands, Stands}

@@ -13,7 +13,7 @@ use Rattle.envy_base.specs.declared.fields.Job.TheVariants.{Copy, Switch}
 use Rattle.envy_base.specs.State.{ones}
 use Rattle.envy_map.specs.Fields.{Chart}
 use Rattle.envy_base.specs.Shape.{all_positions_of, positions_of}
-use Rattle.envy_layout.specs.Sound.{IsPlaced, IsReserved, IsSpare}
+use Rattle.envy_soundness.specs.Sound.{IsPlaced, IsReserved, IsSpare}
 use Rattle.envy_audit.specs.Finding.{FindsSwitch, IsSwitching, Tells}
 use Rattle.envy_audit.specs.Copying.{OriginsStand, KeptAreCopied, CopiesAreSame}
 use Rattle.envy_audit.specs.Points.{rows_of, Stands, Switches, CopiesOf, JobStands, PositionsDiffer, Decodes, IsJobOf}

@@ -1,7 +1,7 @@
 -- What an audit asks of the spare of a switch, part by part.
 use Rattle.std.specs.Prelude.{◌≡◌, ℕ, ◌+◌, ◌*◌, ◌/◌, ◌<◌, [], slice_index, slice_index_or}
 use Rattle.envy_map.specs.Fields.{Chart}
-use Rattle.envy_layout.specs.Sound.{Names, IsKept}
+use Rattle.envy_soundness.specs.Sound.{Names, IsKept}
 
 -- the first origins are rows of the segment and differ from each other
 pub record OriginsStand (c : Chart) (v fill : ℕ) : Type 0 where

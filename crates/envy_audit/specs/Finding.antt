@@ -4,7 +4,7 @@ use Rattle.envy_base.specs.declared.board.Off.{Off}
 use Rattle.envy_base.specs.declared.fields.Job.TheVariants.{Switch}
 use Rattle.envy_base.specs.declared.fields.Slot.{Slot}
 use Rattle.envy_map.specs.Fields.{Chart, place, undo, slot}
-use Rattle.envy_layout.specs.Sound.{slots_of, slot_named}
+use Rattle.envy_soundness.specs.Sound.{slots_of, slot_named}
 use Rattle.envy_audit.specs.Points.{IsPlaceOf, IsUndoOf, Stands, Switches, rows_of}
 use Rattle.envy_base.specs.Shape.{all_positions_of}
 

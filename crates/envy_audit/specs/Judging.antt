@@ -3,7 +3,7 @@ use Rattle.std.specs.Prelude.{◌≡◌, ℕ, ◌<◌, Option, Some, None}
 use Rattle.envy_base.specs.Shape.{IsVersionOf}
 use Rattle.envy_map.specs.Codes.{the_magic}
 use Rattle.envy_map.specs.Fields.{Chart}
-use Rattle.envy_layout.specs.Sound.{IsSound}
+use Rattle.envy_soundness.specs.Sound.{IsSound}
 use Rattle.envy_audit.specs.declared.verdict.Rule.{Rule}
 use Rattle.envy_audit.specs.declared.verdict.Rule.TheVariants.{A, B, C, D, E, F, G, H, I, J, K, L, M}
 use Rattle.envy_audit.specs.declared.verdict.Verdict.{Verdict}

@@ -10,7 +10,7 @@ use Rattle.envy_base.specs.declared.fields.Undo.{Undo}
 use Rattle.envy_base.specs.declared.fields.Undo.TheVariants.{Clear, Blank, Shadow}
 use Rattle.envy_base.specs.State.{ones}
 use Rattle.envy_map.specs.Fields.{Chart, sizes_of, place, undo, slot}
-use Rattle.envy_layout.specs.Sound.{Names, IsKept, IsPlaced, IsReserved, IsSpare, slots_of, slot_named, owned_by}
+use Rattle.envy_soundness.specs.Sound.{Names, IsKept, IsPlaced, IsReserved, IsSpare, slots_of, slot_named, owned_by}
 use Rattle.envy_base.specs.Shape.{all_positions_of, IsVersionOf}
 
 -- the number of rows of a board

@@ -5,7 +5,7 @@ use Rattle.envy_base.specs.declared.shape.Shape.{Shape}
 use Rattle.envy_base.specs.declared.fields.Place.{Place}
 use Rattle.envy_base.specs.declared.fields.Place.TheVariants.{Absent, Row, Frame}
 use Rattle.envy_map.specs.Fields.{Chart}
-use Rattle.envy_layout.specs.Sound.{Names, IsPlaced}
+use Rattle.envy_soundness.specs.Sound.{Names, IsPlaced}
 use Rattle.envy_audit.specs.Points.{rows_of, Stands}
 
 -- which segments stand at positions

@@ -3,7 +3,7 @@ ghost use Rattle.envy_base.specs.Shape.{IsShape};
 ghost use Rattle.envy_map.specs.Fields.{chart};
 ghost use Rattle.envy_audit.specs.Judging.{FindsFirst, IsFormattedAs, Judges};
 
-use crate::decoding::{decodes, is_formatted_as_its_shape};
+use crate::map_fields::{decodes, is_formatted_as_its_shape};
 use crate::sequence::first_of_kept;
 use crate::tables::{mark_frames, mark_placed, mark_used, note_owners};
 use crate::{Rule, Verdict};

@@ -1,6 +1,6 @@
 ghost use Rattle.std.specs.Prelude.{◌≡◌, ◌+◌, ◌*◌, ◌/◌, ◌<◌, ◌≤◌, ℕ, [], length, slice_index, slice_index_or};
 ghost use Rattle.envy_map.specs.Fields.{chart};
-ghost use Rattle.envy_layout.specs.Sound.{IsKept, Names};
+ghost use Rattle.envy_soundness.specs.Sound.{IsKept, Names};
 ghost use Rattle.envy_audit.specs.Finding.{Tells};
 ghost use Rattle.envy_audit.specs.Points.{Decodes, CopiesOf, rows_of};
 ghost use Rattle.envy_audit.specs.Tables.{NotesOwners, MarksCopied, Fills};

@@ -1,6 +1,6 @@
 ghost use Rattle.std.specs.Prelude.{◌≡◌, ◌<◌, ℕ, length};
 ghost use Rattle.envy_map.specs.Fields.{chart};
-ghost use Rattle.envy_layout.specs.Sound.{IsSpare};
+ghost use Rattle.envy_soundness.specs.Sound.{IsSpare};
 ghost use Rattle.envy_audit.specs.Finding.{Tells};
 ghost use Rattle.envy_audit.specs.Points.{Decodes, CopiesOf, JobStands, KeptOnce, rows_of};
 ghost use Rattle.envy_audit.specs.Tables.{MarksPlaced, MarksUsed, NotesOwners};

@@ -1,7 +1,7 @@
 ghost use Rattle.std.specs.Prelude.{◌≡◌, ◌↔◌};
 ghost use Rattle.envy_base.specs.State.{State, IsBoard};
 ghost use Rattle.envy_map.specs.Fields.{Chart, chart};
-ghost use Rattle.envy_layout.specs.Sound.{IsSound};
+ghost use Rattle.envy_soundness.specs.Sound.{IsSound};
 ghost use Rattle.envy_audit.specs.declared.verdict.Rule.{Rule};
 ghost use Rattle.envy_audit.specs.declared.verdict.Verdict.{Verdict};
 ghost use Rattle.envy_audit.specs.Judging.{Holds, Judges};

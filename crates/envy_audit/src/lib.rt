@@ -7,10 +7,10 @@
 
 mod audit;
 mod copies;
-mod decoding;
 mod jobs;
 mod kept;
 mod laws;
+mod map_fields;
 mod segments;
 mod sequence;
 mod tables;

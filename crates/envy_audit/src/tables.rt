@@ -1,7 +1,7 @@
 ghost use Rattle.std.specs.Prelude.{◌≡◌, ◌<◌, Some, false, IfOk, MatchResult, length};
 ghost use Rattle.envy_map.specs.Fields.{chart, place as place_of_page};
 ghost use Rattle.envy_map.specs.Writes.{Gives};
-ghost use Rattle.envy_layout.specs.Words.{kept};
+ghost use Rattle.envy_soundness.specs.Words.{kept};
 ghost use Rattle.envy_audit.specs.Finding.{Tells};
 ghost use Rattle.envy_audit.specs.Points.{Decodes, PositionsDiffer, FramesDiffer, RowsDiffer, rows_of};
 ghost use Rattle.envy_audit.specs.Tables.{MarksPlaced, MarksUsed, NotesOwners, Notes, IsWithin, Fills};

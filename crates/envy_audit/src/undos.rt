@@ -1,6 +1,6 @@
 ghost use Rattle.std.specs.Prelude.{◌≡◌, ◌<◌, false, IfOk, OnErr};
 ghost use Rattle.envy_map.specs.Fields.{chart, undo as undo_of_page};
-ghost use Rattle.envy_layout.specs.Sound.{owned_by};
+ghost use Rattle.envy_soundness.specs.Sound.{owned_by};
 ghost use Rattle.envy_audit.specs.Finding.{Tells, NamesSlot};
 ghost use Rattle.envy_audit.specs.Points.{Decodes, FewAreOwned, UndosAreInUse};
 

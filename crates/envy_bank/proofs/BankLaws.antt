@@ -4,9 +4,10 @@ use Rattle.std.specs.List.{All}
 use Rattle.std.proofs.lemmas.Bool.{cases_lt, cases_eq}
 use Rattle.std.proofs.lemmas.List.{ext_get_or, get_or_past, get_or-map, get_or-set_same, get_or-set_other, set_past, length-set, length-map}
 use Rattle.std.proofs.lemmas.List.FromFn.{get_or-map-range_with_len, length-map-range_with_len}
-use Rattle.envy_chip.specs.Commands.{ChipState, erased_chip}
+use Rattle.envy_bank.specs.Commands.{ChipState, erased_chip}
 use Rattle.envy_bank.specs.Lanes.{row_from, lanes_at, rows_from, IsReady, AreLanes, AreChips, EachLane, LanesHold}
-use Rattle.envy_bank.specs.Rows.{IsPage, IsBank}
+use Rattle.envy_base.specs.State.{IsPage}
+use Rattle.envy_bank.specs.Rows.{IsBank}
 use Rattle.envy_bank.proofs.Words.{AreBytes}
 use Rattle.envy_bank.proofs.LaneLaws.{lanes_of, length-lanes_of, get_or-lanes_of, lane_of-row_from, row_from-lanes_of, IsPage-row_from}
 

@@ -3,9 +3,11 @@ use Rattle.std.proofs.Common.{◌≡◌, ◌∙◌, ◌↔◌, IsTrue, Bool, ℕ
 use Rattle.std.specs.List.{All}
 use Rattle.std.proofs.lemmas.List.{take_at, get_or_read, length-set, length-replicate}
 use Rattle.std.proofs.lemmas.Nat.{row_fits}
-use Rattle.envy_chip.specs.Commands.{ChipState, erased_chip, read_of, upset_at}
+use Rattle.envy_bank.specs.Commands.{ChipState, erased_chip, read_of, upset_at}
 use Rattle.envy_bank.specs.Lanes.{lane_of, row_from, lanes_at, rows_from, IsReady, AreChips, anded, blanked, EachLane, LanesHold}
-use Rattle.envy_bank.specs.Rows.{BankState, IsPage, IsBank, ErasesBlock, ands, row_of, with_row, erased_bank, up}
+use Rattle.envy_base.specs.Counting.{up}
+use Rattle.envy_base.specs.State.{IsPage, ands}
+use Rattle.envy_bank.specs.Rows.{BankState, IsBank, ErasesBlock, row_of, with_row, erased_bank}
 use Rattle.envy_bank.proofs.BankLaws.{length-rows_from, get_or-rows_from, AreChips-made, IsBank-made, row_from_held}
 use Rattle.envy_bank.proofs.ProgramLaw.{AreLanes-programmed, AreLanes-upset, rows_from-programmed, rows_from-upset}
 use Rattle.envy_bank.proofs.EraseLaw.{AreLanes-erased, ErasesRows-erased, AreLanes-erased_chips, rows_from-erased_chips}

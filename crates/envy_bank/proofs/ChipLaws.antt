@@ -6,11 +6,12 @@ use Rattle.std.proofs.lemmas.Bool.{cases_eq, cases_lt}
 use Rattle.std.proofs.lemmas.List.{ext_get_or, get_or_past, get_or-map, map-set, length-map, get_or-replicate, length-replicate}
 use Rattle.std.proofs.lemmas.List.FromFn.{get_or-map-range_with_len, length-map-range_with_len}
 use Rattle.std.proofs.lemmas.Nat.{and_le_l, row_fits}
-use Rattle.envy_chip.specs.declared.chip.Mode.TheVariants.{Array}
-use Rattle.envy_chip.specs.Commands.{ChipState, with_erased_block, read_of, upset_at}
+use Rattle.envy_bank.specs.declared.chip.Mode.TheVariants.{Array}
+use Rattle.envy_bank.specs.Commands.{ChipState, with_erased_block, read_of, upset_at}
 use Rattle.envy_bank.specs.Chips.{chip_of, programmed_by_bytes, erased_by_bytes, EachChip, row_read}
 use Rattle.envy_bank.specs.Lanes.{lane_of, row_from}
-use Rattle.envy_bank.specs.Rows.{BankState, IsPage, IsBank, ErasesBlock, ands, ones, row_of, with_row}
+use Rattle.envy_base.specs.State.{IsPage, ands, ones}
+use Rattle.envy_bank.specs.Rows.{BankState, IsBank, ErasesBlock, row_of, with_row}
 use Rattle.envy_bank.proofs.Words.{AreBytes}
 use Rattle.envy_bank.proofs.LaneLaws.{lanes_of, length-lanes_of, get_or-lanes_of, lane_of-row_from, row_from-lanes_of, row_from-ands}
 use Rattle.envy_bank.proofs.ProgramLaw.{lane_of-below, AreBytes-lanes_of}

@@ -5,9 +5,10 @@ use Rattle.std.proofs.lemmas.List.{ext_get_or, get_or_past, get_or-take, get_or-
 use Rattle.std.proofs.lemmas.List.Elements.{All-replicate}
 use Rattle.std.proofs.lemmas.Nat.{div-mul-add, div-add-mod', mod_below}
 use Rattle.std.proofs.Math.Nat.{add-zero}
-use Rattle.envy_chip.specs.Commands.{ChipState, erased_chip, with_erased_block}
+use Rattle.envy_bank.specs.Commands.{ChipState, erased_chip, with_erased_block}
 use Rattle.envy_bank.specs.Lanes.{row_from, lanes_at, rows_from, IsReady, AreLanes, blanked, EachLane}
-use Rattle.envy_bank.specs.Rows.{ErasesRows, ones}
+use Rattle.envy_base.specs.State.{ones}
+use Rattle.envy_bank.specs.Rows.{ErasesRows}
 use Rattle.envy_bank.proofs.Words.{AreBytes}
 use Rattle.envy_bank.proofs.LaneLaws.{length-row_from, from_le-eight}
 use Rattle.envy_bank.proofs.BankLaws.{none, length-lanes_at, get_or-lanes_at, get_or-rows_from, length-rows_from, IsLane, lane_at, AreLanes-kept, get_or-lanes_at-each, lanes_at-same}

@@ -6,7 +6,7 @@ use Rattle.std.proofs.lemmas.Bool.{cases_eq, cases_lt, false≢true}
 use Rattle.std.proofs.lemmas.List.{ext_get_or, get_or-set_same, get_or-set_other, get_or-replicate, get_or_read, length-set, length-replicate, set-append_right, append_assoc, take_at}
 use Rattle.std.proofs.lemmas.Nat.{and_mask, and_comm}
 use Rattle.envy_bank.specs.Kept.{ArePaged, kept_row, kept_rows, MarksRange, ErasesRange}
-use Rattle.envy_bank.specs.Rows.{IsPage, ands, ones}
+use Rattle.envy_base.specs.State.{IsPage, ands, ones}
 use Rattle.envy_bank.proofs.LaneLaws.{length-ands, get_or-ands}
 
 pub length-kept : (marks : List Bool) (pages : List (List ℕ)) → length (kept_rows marks pages) ≡ length marks

@@ -8,7 +8,7 @@ use Rattle.std.proofs.lemmas.List.{ext_get_or, get_or-take, get_or-drop, get_or_
 use Rattle.std.proofs.lemmas.List.FromFn.{get_or-map-range_with_len, length-map-range_with_len}
 use Rattle.std.proofs.lemmas.Nat.{le_bytes_8, from_le_bytes-to_le_bytes_8}
 use Rattle.envy_bank.specs.Lanes.{lane_of, row_from}
-use Rattle.envy_bank.specs.Rows.{ands, IsPage}
+use Rattle.envy_base.specs.State.{ands, IsPage}
 use Rattle.envy_bank.proofs.Words.{AreBytes, from_le-ands, from_le_bytes-below}
 
 -- the eight lanes of word i

@@ -2,7 +2,7 @@
 use Rattle.std.proofs.Common.{◌≡◌, ◌≢◌, ℕ, ◌+◌, ◌<◌, ◌≤◌, ◌↔◌, inl, inr, Bool, true, false, ◌&&◌, IsTrue, List, length, get_or, set, refl, arith}
 use Rattle.std.proofs.lemmas.Bool.{cases_eq}
 use Rattle.std.proofs.lemmas.List.{get_or-set_same, get_or-set_other}
-use Rattle.envy_chip.specs.Commands.{ChipState}
+use Rattle.envy_bank.specs.Commands.{ChipState}
 
 -- the chips below n have changed
 pub record Begun (f : ℕ → ChipState → ChipState) (old now : List ChipState) (n : ℕ) : Type 0 where

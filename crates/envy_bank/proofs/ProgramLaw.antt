@@ -5,9 +5,9 @@ use Rattle.std.specs.Int.{bytes_low_first, byte_at}
 use Rattle.std.proofs.lemmas.Bool.{cases_lt}
 use Rattle.std.proofs.lemmas.List.{ext_get_or, get_or_past, get_or-set_same, get_or-set_other, length-set}
 use Rattle.std.proofs.lemmas.Nat.{and_le_l}
-use Rattle.envy_chip.specs.Commands.{ChipState, upset_at}
+use Rattle.envy_bank.specs.Commands.{ChipState, upset_at}
 use Rattle.envy_bank.specs.Lanes.{lane_of, row_from, lanes_at, rows_from, AreLanes, anded, EachLane}
-use Rattle.envy_bank.specs.Rows.{IsPage, ands}
+use Rattle.envy_base.specs.State.{IsPage, ands}
 use Rattle.envy_bank.proofs.Words.{AreBytes}
 use Rattle.envy_bank.proofs.LaneLaws.{lanes_of, length-lanes_of, get_or-lanes_of, row_from-lanes_of, row_from-ands}
 use Rattle.envy_bank.proofs.BankLaws.{none, length-lanes_at, get_or-lanes_at, get_or-rows_from, AreBytes-lanes_at, IsLane, AreLanes-kept, get_or-lanes_at-each, lanes_at-same, rows_from-set, bytes-set}

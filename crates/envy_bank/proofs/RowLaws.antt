@@ -4,7 +4,9 @@ use Rattle.std.proofs.lemmas.Bool.{cases_lt, cases_eq}
 use Rattle.std.proofs.lemmas.List.{get_or_past, get_or-set_same, get_or-set_other, get_or-replicate, get_or_read, length-set, length-replicate}
 use Rattle.std.proofs.lemmas.Nat.{and_le_l}
 use Rattle.envy_bank.specs.Kept.{ErasesRange}
-use Rattle.envy_bank.specs.Rows.{BankState, IsPage, IsBank, ErasesRows, ErasesBlock, ands, ones, with_row, up}
+use Rattle.envy_base.specs.Counting.{up}
+use Rattle.envy_base.specs.State.{IsPage, ands, ones}
+use Rattle.envy_bank.specs.Rows.{BankState, IsBank, ErasesRows, ErasesBlock, with_row}
 use Rattle.envy_bank.proofs.EraseLaw.{block_of, before_block, behind_block}
 use Rattle.envy_bank.proofs.LaneLaws.{length-ands, get_or-ands}
 

@@ -1,8 +1,8 @@
 -- The 256 chips that the rows of a bank mean, and the bytes by which a processor drives a chip.
 use Rattle.std.specs.Prelude.{◌≡◌, ℕ, ◌<◌, false, List, map}
 use Rattle.std.specs.List.{range_with_len}
-use Rattle.envy_chip.specs.declared.chip.Mode.TheVariants.{Array}
-use Rattle.envy_chip.specs.Commands.{ChipState, written, read_of}
+use Rattle.envy_bank.specs.declared.chip.Mode.TheVariants.{Array}
+use Rattle.envy_bank.specs.Commands.{ChipState, written, read_of}
 use Rattle.envy_bank.specs.Lanes.{lane_of, row_from}
 use Rattle.envy_bank.specs.Rows.{BankState}
 

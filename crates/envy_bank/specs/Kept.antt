@@ -1,7 +1,7 @@
 -- Rows that are kept as pages, of which those that are marked stand for erased rows. Rows behind the last page
 -- that was needed yet have none.
 use Rattle.std.specs.Prelude.{◌≡◌, ℕ, ◌<◌, ◌≤◌, Bool, true, false, List, [], ◌∷◌, length, slice_index_or}
-use Rattle.envy_bank.specs.Rows.{ones}
+use Rattle.envy_base.specs.State.{ones}
 
 -- a marked row is erased, whatever the page holds
 abbrev pub kept_row : Bool → List ℕ → List ℕ

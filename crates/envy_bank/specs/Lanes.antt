@@ -2,9 +2,9 @@
 use Rattle.std.specs.Prelude.{◌≡◌, ℕ, ◌*◌, ◌/◌, ◌%◌, ◌<◌, ◌≤◌, false, List, [], map, length, take, drop, slice_index, slice_index_or, slice_set, bit_and}
 use Rattle.std.specs.List.{range_with_len, All}
 use Rattle.std.specs.Int.{w64, to_le_bytes, from_le_bytes}
-use Rattle.envy_chip.specs.declared.chip.TheConstants.{MOST_BYTES}
-use Rattle.envy_chip.specs.declared.chip.Mode.TheVariants.{Array}
-use Rattle.envy_chip.specs.Commands.{ChipState, with_erased_block}
+use Rattle.envy_bank.specs.declared.chip.TheConstants.{MOST_BYTES}
+use Rattle.envy_bank.specs.declared.chip.Mode.TheVariants.{Array}
+use Rattle.envy_bank.specs.Commands.{ChipState, with_erased_block}
 use Rattle.envy_base.specs.declared.page.TheConstants.{PAGE_WORDS}
 
 -- lane j of a row is byte j mod 8 of word j div 8, the least significant byte first

@@ -1,6 +1,7 @@
 -- A bank as rows of words: what it holds, and what a program and an erase make of it.
-use Rattle.std.specs.Prelude.{◌≡◌, ◌≢◌, ℕ, ◌+◌, ◌-◌, ◌*◌, ◌/◌, ◌^◌, ◌<◌, ◌≤◌, min, max, List, [], ◌∷◌, length, replicate, slice_index, slice_index_or, slice_set, bit_and}
-use Rattle.envy_base.specs.declared.page.TheConstants.{PAGE_WORDS}
+use Rattle.std.specs.Prelude.{◌≡◌, ◌≢◌, ℕ, ◌*◌, ◌/◌, ◌<◌, ◌≤◌, List, [], length, replicate, slice_index, slice_index_or, slice_set}
+use Rattle.envy_base.specs.Counting.{up}
+use Rattle.envy_base.specs.State.{IsPage, ones}
 use Rattle.envy_base.specs.declared.shape.TheConstants.{MOST_ROWS}
 
 -- the rows, the number of rows of a block, and how often each block was erased
@@ -8,11 +9,6 @@ pub record BankState : Type 0 where
   pub flash : List (List ℕ)
   pub rows : ℕ
   pub erases : List ℕ
-
--- a page has 32 words of 64 bits
-pub record IsPage (xs : List ℕ) : Type 0 where
-  pub long : length xs ≡ PAGE_WORDS
-  pub words : (i : ℕ) → slice_index xs i < 2 ^ 64
 
 -- whole blocks of at least one row, each row a page
 pub record IsBank (s : BankState) : Type 0 where
@@ -23,20 +19,6 @@ pub record IsBank (s : BankState) : Type 0 where
 
 abbrev pub row_of : BankState → ℕ → List ℕ
 row_of s q = slice_index_or s.flash q []
-
--- the bitwise AND, word by word
-abbrev pub ands : List ℕ → List ℕ → List ℕ
-ands [] ys = []
-ands (x ∷ xs) [] = []
-ands (x ∷ xs) (y ∷ ys) = bit_and x y ∷ ands xs ys
-
--- an erased row
-abbrev pub ones : List ℕ
-ones = replicate PAGE_WORDS (2 ^ 64 - 1)
-
--- a count of 64 bits after one more: it stops at the top
-unfoldable pub up : ℕ → ℕ
-up n = max n (min (n + 1) (2 ^ 64 - 1))
 
 -- all is erased, and nothing was erased yet
 abbrev pub erased_bank : ℕ → ℕ → BankState

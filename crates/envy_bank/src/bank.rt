@@ -1,9 +1,9 @@
 ghost use Rattle.std.specs.Prelude.{◌≡◌, ◌*◌, ◌<◌, ◌≤◌, ◌↔◌, IsTrue, IfOk, length, slice_index};
-ghost use Rattle.envy_bank.specs.Rows.{IsBank, ErasesBlock, ands, erased_bank, row_of, with_row};
+ghost use Rattle.envy_base.specs.State.{ands};
+ghost use Rattle.envy_bank.specs.Rows.{IsBank, ErasesBlock, erased_bank, row_of, with_row};
 
-use crate::counting::more;
 use crate::kept::KeptRows;
-use envy_base::{MOST_ROWS, PAGE_WORDS, Page};
+use envy_base::{MOST_ROWS, PAGE_WORDS, Page, more};
 use std::alloc::{AllocError, Global};
 use std::marker::Model;
 

@@ -1,12 +1,12 @@
 ghost use Rattle.std.specs.Prelude.{◌≡◌, ◌*◌, ◌<◌, ◌≤◌, ◌↔◌, IsTrue, IfOk, length, slice_index};
 ghost use Rattle.envy_bank.specs.Lanes.{lane_of};
-ghost use Rattle.envy_bank.specs.Rows.{IsBank, ErasesBlock, ands, erased_bank, row_of, with_row};
+ghost use Rattle.envy_base.specs.State.{ands};
+ghost use Rattle.envy_bank.specs.Rows.{IsBank, ErasesBlock, erased_bank, row_of, with_row};
 
 use crate::bank::NoMemory;
-use crate::counting::more;
 use crate::lanes::{erase_lanes, new_lanes, program_lanes, read_lanes, upset_lanes};
-use envy_base::{PAGE_WORDS, Page};
-use envy_chip::{Chip, MOST_BYTES};
+use crate::{Chip, MOST_BYTES};
+use envy_base::{PAGE_WORDS, Page, more};
 use std::alloc::Global;
 use std::marker::Model;
 

@@ -1,5 +1,5 @@
 ghost use Rattle.std.specs.Prelude.{◌≡◌, ◌+◌, ◌-◌, ◌<◌, ◌≤◌, ◌↔◌, ◌++◌, ◌∷◌, IsTrue, IfOk, [], length, replicate, slice_index, slice_index_or, slice_set, vec_capacity};
-ghost use Rattle.envy_bank.specs.Rows.{ands, ones};
+ghost use Rattle.envy_base.specs.State.{ands, ones};
 ghost use Rattle.envy_bank.specs.Kept.{MarksRange, ErasesRange};
 
 use envy_base::{PAGE_LENGTH, PAGE_WORDS, Page};

@@ -1,13 +1,13 @@
 ghost use Rattle.std.specs.Prelude.{◌≡◌, ◌*◌, ◌<◌, ◌≤◌, ◌↔◌, IsTrue, length, slice_index, IfOk, replicate};
 ghost use Rattle.std.specs.List.{All};
-ghost use Rattle.envy_chip.specs.Commands.{erased_chip, upset_at};
+ghost use Rattle.envy_bank.specs.Commands.{erased_chip, upset_at};
 ghost use Rattle.envy_bank.specs.Lanes.{lane_of, IsReady, anded, blanked, EachLane, LanesHold, lanes_at, row_from};
 
-use envy_base::{PAGE_WORDS, Page};
-use envy_chip::{
+use crate::{
     CLEAR_STATUS, Chip, ERASE_CONFIRM, ERASE_SETUP, MOST_BYTES, PROGRAM_ERROR, PROGRAM_SETUP,
     READ_ARRAY,
 };
+use envy_base::{PAGE_WORDS, Page};
 use std::alloc::{AllocError, Global};
 
 pub const LANES: usize = 256;

@@ -1,7 +1,8 @@
 ghost use Rattle.std.specs.Prelude.{◌≡◌, ℕ, ◌/◌, ◌<◌, List, length};
-ghost use Rattle.envy_chip.specs.Commands.{upset_at};
+ghost use Rattle.envy_bank.specs.Commands.{upset_at};
 ghost use Rattle.envy_bank.specs.Lanes.{lane_of};
-ghost use Rattle.envy_bank.specs.Rows.{BankState, IsBank, IsPage, ErasesBlock, ands, row_of, with_row};
+ghost use Rattle.envy_base.specs.State.{IsPage, ands};
+ghost use Rattle.envy_bank.specs.Rows.{BankState, IsBank, ErasesBlock, row_of, with_row};
 ghost use Rattle.envy_bank.specs.Chips.{EachChip, programmed_by_bytes, erased_by_bytes, row_read};
 
 /// What `program_row` makes of a bank is what the bytes of a program, given to each chip at the row's

@@ -10,3 +10,7 @@ pub record Tally (a b c d : ℕ) : Type 0 where
   pub first : a ≤ c
   pub second : b ≤ d
   pub same : c < 2 ^ 64 - 1 → d < 2 ^ 64 - 1 → c + b ≡ a + d
+
+-- a count that stops at the top rose
+abbrev pub Rose : ℕ → ℕ → Type 0
+Rose a b = a < 2 ^ 64 - 1 → a < b

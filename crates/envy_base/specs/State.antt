@@ -10,6 +10,25 @@ use Rattle.envy_base.specs.Map.{words_of}
 use Rattle.envy_base.specs.Shape.{IsShape}
 use Rattle.envy_base.specs.declared.page.TheConstants.{PAGE_WORDS}
 
+-- a sync of a board whose owner keeps it on a disk: when it succeeded, the bytes that it brought there, and how many calls on
+-- a second file had failed before it
+pub record SyncNote : Type 0 where
+  pub moment : ℕ
+  pub bytes : List ℕ
+  pub hindrances : ℕ
+
+-- what the owner of a board notes beside it: the last sync that succeeded, and the one before
+pub record Notes : Type 0 where
+  pub last : SyncNote
+  pub before : SyncNote
+
+-- there was no sync
+abbrev pub no_sync : SyncNote
+no_sync = record { moment = 0; bytes = []; hindrances = 0 }
+
+abbrev pub no_notes : Notes
+no_notes = record { last = no_sync; before = no_sync }
+
 pub record State : Type 0 where
   pub shape : Shape
   -- rows of 32 words
@@ -27,6 +46,8 @@ pub record State : Type 0 where
   pub last_plan : Option PlannedFault
   pub lives : ℕ
   pub given : ℕ
+  -- which no call of a board changes
+  pub notes : Notes
 
 -- words of 64 bits
 abbrev pub AreWords : List ℕ → Type 0

@@ -5,35 +5,35 @@ use Rattle.std.proofs.lemmas.Bool.{false≢true}
 use Rattle.envy_audit.specs.Judging.{BreaksFirst}
 use Rattle.envy_audit.proofs.Sounding.{sound-points}
 use Rattle.envy_base.specs.Shape.{version_of}
-use Rattle.envy_base.specs.State.{IsBoard, State}
+use Rattle.envy_base.specs.State.{Notes, IsBoard, State}
 use Rattle.envy_base.proofs.Versions.{version-known}
 use Rattle.envy_base.specs.declared.shape.Shape.{Shape}
-use Rattle.envy_base.proofs.Undoing.{undo_all-closed}
+use Rattle.envy_array.proofs.Undoing.{undo_all-closed}
 use Rattle.envy_begun.specs.Beginning.{HasBegun, HasOperationsOf, HasStopped, IsStopped}
 use Rattle.envy_begun.specs.Opens.{OpensAs}
 use Rattle.envy_begun.specs.Plans.{BeginsOn, IsOpened}
 use Rattle.envy_begun.specs.Unserved.{Declines, HasNoWords, Refrains}
-use Rattle.envy_begun.specs.declared.planning.Holding.TheVariants.{Written}
-use Rattle.envy_begun.specs.declared.unbegun.Unbegun.{Unbegun}
-use Rattle.envy_begun.specs.declared.unbegun.Unbegun.TheVariants.{Damaged, Failed, Memory, NoJournal}
+use Rattle.envy_begun.specs.declared.file_contents.FileContents.TheVariants.{Written}
+use Rattle.envy_begun.specs.declared.open_fault.OpenFault.{OpenFault}
+use Rattle.envy_begun.specs.declared.open_fault.OpenFault.TheVariants.{Damaged, Failed, Memory, NoJournal}
 use Rattle.envy_begun.proofs.Opening.{IsGood, opens-as}
 use Rattle.envy_calls.specs.Making.{Forbids, IsWhole}
 use Rattle.envy_calls.specs.declared.code.Code.{Code}
 use Rattle.envy_calls.specs.declared.code.Code.TheVariants.{NoMemory, Unformatted, Older, OtherShape, Setup as OfSetup, Broken}
-use Rattle.envy_disk.specs.Disk.{with_disk}
+use Rattle.envy_disk.specs.Disk.{with_notes}
 use Rattle.envy_journal.specs.Content.{Content, HasMisfit, content_of, holds}
 use Rattle.envy_journal.specs.Head.{head_bytes}
 use Rattle.envy_journal.specs.Journal.{journal_state}
 use Rattle.envy_journal.specs.Log.{Begins}
 use Rattle.envy_journal.specs.Reading.{operations}
 use Rattle.envy_journal.specs.Snapshot.{most_of}
-use Rattle.envy_journal.specs.declared.opening.OpenError.{OpenError}
-use Rattle.envy_journal.specs.declared.opening.OpenError.TheVariants.{Failed as OpenFailed}
+use Rattle.envy_journal.specs.declared.open_error.OpenError.{OpenError}
+use Rattle.envy_journal.specs.declared.open_error.OpenError.TheVariants.{Failed as OpenFailed}
 use Rattle.envy_synced.specs.Disk.{IsCompact, IsSynced, Reopens}
-use Rattle.envy_layout.specs.Same.{Kept}
-use Rattle.envy_layout.specs.Sound.{Head, IsSound, Sound}
-use Rattle.envy_layout.specs.Stands.{Stands}
-use Rattle.envy_layout.specs.Words.{durable}
+use Rattle.envy_soundness.specs.Same.{Kept}
+use Rattle.envy_soundness.specs.Sound.{Head, IsSound, Sound}
+use Rattle.envy_meaning.specs.Stands.{Stands}
+use Rattle.envy_soundness.specs.Words.{durable}
 use Rattle.envy_map.specs.Codes.{the_magic}
 use Rattle.envy_map.specs.Fields.{Chart, chart, map_fields, shape_of}
 use Rattle.envy_memory.proofs.AttachLemmas.{formatted-sound, kept-shape}
@@ -48,20 +48,12 @@ use Rattle.envy_policy.specs.Setup.{checked}
 use Rattle.envy_policy.specs.declared.setup.Setup.{Setup}
 
 -- a memory over a board that was compacted
-pub still-compact : (was now : Chart) → now.shape ≡ was.shape → now.given ≡ was.given → IsCompact was → IsCompact now
-still-compact was now shape given is = record {
-  hindrances = is.hindrances;
-  bytes = is.bytes;
-  coded = given ∙ is.coded;
-  short = subst (λ (x : Shape). length is.bytes ≤ most_of x) (sym shape) is.short;
-}
+pub still-compact : (was now : Chart) → now.shape ≡ was.shape → now.notes ≡ was.notes → IsCompact was → IsCompact now
+still-compact was now shape notes is = subst (λ (n : Notes). length n.last.bytes ≤ most_of now.shape) (sym notes) (subst (λ (x : Shape). length was.notes.last.bytes ≤ most_of x) (sym shape) is)
 
 -- and over one that wasn't
-pub still-same : (file : List ℕ) (was now : Chart) → now.given ≡ was.given → HasOperationsOf file was → HasOperationsOf file now
-still-same file was now given has = record { hindrances = has.hindrances; bytes = has.bytes; coded = given ∙ has.coded; same = has.same }
-
-pub has-operations : (file : List ℕ) (c : Chart) (synced : IsSynced c) → operations synced.bytes ≡ operations file → HasOperationsOf file c
-has-operations file c synced same = record { hindrances = synced.hindrances; bytes = synced.bytes; coded = synced.coded; same = same }
+pub still-same : (file : List ℕ) (was now : Chart) → now.notes ≡ was.notes → HasOperationsOf file was → HasOperationsOf file now
+still-same file was now notes has = ap (λ (n : Notes). operations n.last.bytes) notes ∙ has
 
 -- no shape has version 1
 never-first : (sh : Shape) → version_of sh ≡ 1 → ⊥
@@ -86,7 +78,7 @@ module _ (sh : Shape) (file : List ℕ) (s : State) (o : IsOpened sh file s) whe
       record {
         was = chart s;
         synced = synced;
-        last = record { shape = sym kept.shape; moment = kept.counted.plans; bytes = kept.counted.given };
+        last = record { shape = sym kept.shape; sync = ap (λ (n : Notes). n.last) kept.counted.notes };
         comes = (reopens, Attaches.taken a);
       }
 
@@ -106,7 +98,7 @@ module _ (sh : Shape) (file : List ℕ) (s : State) (o : IsOpened sh file s) whe
           record {
             was = chart s;
             synced = synced;
-            last = record { shape = sym kept.shape; moment = kept.counted.plans; bytes = kept.counted.given };
+            last = record { shape = sym kept.shape; sync = ap (λ (n : Notes). n.last) kept.counted.notes };
             magic = IsWhole.magic whole;
             version = IsGood.version good;
             sound = IsWhole.sound whole;
@@ -154,14 +146,14 @@ opens-whole sh file s o setup is whole =
     (durable (chart s), subst (λ (x : Shape). OpensAs x (durable (chart s)) file) (o.shape ∙ is) (opens-as (chart s) file good (reopens sh file s o)))
 
 -- what an audit refused
-pub audited-refrains : (sh : Shape) (file : List ℕ) (s : State) (o : IsOpened sh file s) (setup : Setup) (is : sh ≡ setup.shape) → IsBoard s → checked setup ≡ Ok tt → (unbegun : Unbegun)
+pub audited-refrains : (sh : Shape) (file : List ℕ) (s : State) (o : IsOpened sh file s) (setup : Setup) (is : sh ≡ setup.shape) → IsBoard s → checked setup ≡ Ok tt → (unbegun : OpenFault)
     → (unbegun ≡ Memory) ⊎ ((unbegun ≡ NoJournal) × (code : Code) × (code ≢ NoMemory) × Forbids code (chart s) setup) → Refrains (HasNoWords setup.shape file) file unbegun
-audited-refrains sh file s o setup is board checks unbegun (inl memory) = subst (λ (u : Unbegun). Refrains (HasNoWords setup.shape file) file u) (sym memory) tt
+audited-refrains sh file s o setup is board checks unbegun (inl memory) = subst (λ (u : OpenFault). Refrains (HasNoWords setup.shape file) file u) (sym memory) tt
 audited-refrains sh file s o setup is board checks unbegun (inr (none, code, enough, forbids)) =
-    subst (λ (u : Unbegun). Refrains (HasNoWords setup.shape file) file u) (sym none) (inr (λ words opens. not-forbidden sh file s o setup is board checks words opens code enough forbids))
+    subst (λ (u : OpenFault). Refrains (HasNoWords setup.shape file) file u) (sym none) (inr (λ words opens. not-forbidden sh file s o setup is board checks words opens code enough forbids))
 
 -- why a journal wasn't opened, or a memory attached, and the file: by what was found
-module _ {D : Type 0} (seen : D → List ℕ) (has_failed : D → Bool) (old new : D) (unbegun : Unbegun) where
+module _ {D : Type 0} (seen : D → List ℕ) (has_failed : D → Bool) (old new : D) (unbegun : OpenFault) where
   abbrev pub SaysError : OpenError → Type 0
   SaysError error = ((error ≡ OpenFailed) × (unbegun ≡ Failed 0) × (new ≡ old)) ⊎ ((error ≢ OpenFailed) × IsStopped seen has_failed unbegun new)
 
@@ -172,7 +164,7 @@ module _ {D : Type 0} (seen : D → List ℕ) (has_failed : D → Bool) (old new
   SaysFault fault held = ((fault ≡ FormatOff) × (unbegun ≡ Failed held) × (new ≡ old)) ⊎ ((fault ≢ FormatOff) × IsStopped seen has_failed unbegun new)
 
   stops-as : (held : ℕ) → unbegun ≡ Failed held → new ≡ old → HasStopped seen has_failed held old → IsStopped seen has_failed unbegun new
-  stops-as held why same stopped = subst (λ (u : Unbegun). IsStopped seen has_failed u new) (sym why) (subst (λ (x : D). HasStopped seen has_failed held x) (sym same) stopped)
+  stops-as held why same stopped = subst (λ (u : OpenFault). IsStopped seen has_failed u new) (sym why) (subst (λ (x : D). HasStopped seen has_failed held x) (sym same) stopped)
 
   -- a journal wasn't made or opened
   pub unopened-stopped : (error : OpenError) → SaysError error → (error ≡ OpenFailed → IsTrue (has_failed old)) → IsStopped seen has_failed unbegun new
@@ -200,24 +192,24 @@ pub off-attach : (fault : AttachFault) (old new : State) (setup : Setup) → fau
 off-attach fault old new setup is d = (subst (λ (x : AttachFault). AttachDeclines old setup x new) is d).0
 
 -- the state of a board that was opened
-pub opened-state : (b : State) (dead : Bool) (plans given pulled lives : ℕ) (sh : Shape) (file : List ℕ) → dead ≡ false → IsOpened sh file b → IsOpened sh file (with_disk (journal_state dead b) plans given pulled lives)
-opened-state b true plans given pulled lives sh file is o = absurd (false≢true (sym is))
-opened-state b false plans given pulled lives sh file is o = record { head = o.head; shape = o.shape; content = o.content; ends = o.ends }
+pub opened-state : (b : State) (dead : Bool) (notes : Notes) (sh : Shape) (file : List ℕ) → dead ≡ false → IsOpened sh file b → IsOpened sh file (with_notes (journal_state dead b) notes)
+opened-state b true notes sh file is o = absurd (false≢true (sym is))
+opened-state b false notes sh file is o = record { head = o.head; shape = o.shape; content = o.content; ends = o.ends }
 
 -- why a journal isn't taken up
 module _ {M D : Type 0} (seen : D → List ℕ) (has_failed : D → Bool) (Reason : Type 0) (file : List ℕ) (old : D) where
-  pub all-declines : (result : Result M (Unbegun × D)) → IfErr result (λ e. IsStopped seen has_failed e.0 e.1) → IfErr result (λ e. Declines seen has_failed Reason file old e.0 e.1)
+  pub all-declines : (result : Result M (OpenFault × D)) → IfErr result (λ e. IsStopped seen has_failed e.0 e.1) → IfErr result (λ e. Declines seen has_failed Reason file old e.0 e.1)
   all-declines (Ok memory) stopped = tt
   all-declines (Err e) stopped = inr stopped
 
 -- a reason for another
-pub refrains-for : (P Q : Type 0) (file : List ℕ) (unbegun : Unbegun) → (P → Q) → Refrains P file unbegun → Refrains Q file unbegun
+pub refrains-for : (P Q : Type 0) (file : List ℕ) (unbegun : OpenFault) → (P → Q) → Refrains P file unbegun → Refrains Q file unbegun
 refrains-for P Q file NoJournal goes r = goes r
 refrains-for P Q file (Damaged place) goes r = r
 refrains-for P Q file Memory goes r = r
 refrains-for P Q file other goes r = absurd r
 
-pub declines-for : {D : Type 0} (seen : D → List ℕ) (has_failed : D → Bool) (P Q : Type 0) (file : List ℕ) (old : D) (unbegun : Unbegun) (new : D) → (P → Q) → Declines seen has_failed P file old unbegun new → Declines seen has_failed Q file old unbegun new
+pub declines-for : {D : Type 0} (seen : D → List ℕ) (has_failed : D → Bool) (P Q : Type 0) (file : List ℕ) (old : D) (unbegun : OpenFault) (new : D) → (P → Q) → Declines seen has_failed P file old unbegun new → Declines seen has_failed Q file old unbegun new
 declines-for seen has_failed P Q file old unbegun new goes (inl (r, same)) = inl (refrains-for P Q file unbegun goes r, same)
 declines-for seen has_failed P Q file old unbegun new goes (inr stopped) = inr stopped
 

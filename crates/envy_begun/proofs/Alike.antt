@@ -2,14 +2,14 @@
 use Rattle.std.proofs.Common.{◌≡◌, ◌⊎◌, ◌∙◌, ◌≤◌, inl, inr, ⊎_elim, ℕ, Bool, List, false, Err, Ok, refl, sym, ap, subst, arith}
 use Rattle.std.specs.Prelude.{IfErr, Result}
 use Rattle.std.proofs.Math.Logic.{∥∥₁_map}
-use Rattle.envy_base.specs.State.{State}
+use Rattle.envy_base.specs.State.{Notes, SyncNote, State}
 use Rattle.envy_base.specs.declared.board.Off.{Off}
 use Rattle.envy_base.specs.declared.shape.Shape.{Shape}
 use Rattle.envy_begun.specs.Left.{KeepsWords, Leaves, OpensAlike, Stays, StaysWritten}
 use Rattle.envy_begun.specs.Plans.{IsOpened}
-use Rattle.envy_begun.specs.declared.planning.Holding.{Holding}
-use Rattle.envy_begun.specs.declared.unbegun.Unbegun.{Unbegun}
-use Rattle.envy_begun.specs.declared.unbegun.Unbegun.TheVariants.{Damaged, Failed, Memory, NoJournal, NotMade, Setup, OtherVersion, OtherSizes, Options}
+use Rattle.envy_begun.specs.declared.file_contents.FileContents.{FileContents}
+use Rattle.envy_begun.specs.declared.open_fault.OpenFault.{OpenFault}
+use Rattle.envy_begun.specs.declared.open_fault.OpenFault.TheVariants.{Damaged, Failed, Memory, NoJournal, NotMade, Setup, OtherVersion, OtherSizes, Options}
 use Rattle.envy_begun.proofs.Again.{SaysAttach, attach-same, err_on}
 use Rattle.envy_begun.specs.Beginning.{IsStopped}
 use Rattle.envy_begun.specs.Unserved.{Refrains}
@@ -23,11 +23,11 @@ use Rattle.envy_journal.specs.Head.{StandsFor, head_bytes}
 use Rattle.envy_journal.specs.Log.{Begins}
 use Rattle.envy_journal.specs.Reading.{operations}
 use Rattle.envy_journal.specs.declared.operation.Operation.{Operation}
-use Rattle.envy_layout.specs.Same.{Counted, Kept}
+use Rattle.envy_soundness.specs.Same.{Counted, Kept}
 use Rattle.envy_map.specs.Fields.{Chart, Fields, chart, map_fields}
 use Rattle.envy_policy.specs.declared.setup.Setup.{Setup as OfSetup}
-use Rattle.envy_saved.proofs.Reopened.{same_fields, same_sound, same_words}
-use Rattle.envy_synced.specs.Disk.{IsLast, IsSynced, Reopens}
+use Rattle.envy_synced.proofs.Reopened.{same_fields, same_sound, same_words}
+use Rattle.envy_synced.specs.Disk.{CrashLeaves, IsLast, IsSynced, Reopens}
 
 module _ {D : Type 0} (left_since : D → ℕ → List ℕ → Type 0) (moment : D → ℕ) where
   -- each such file is another such file
@@ -48,11 +48,11 @@ pub no-more : {D : Type 0} (may_leave : D → List ℕ → Type 0) (moment : D �
 no-more may_leave moment left_since old new time crash now t c early left = ⊎_elim (λ past. past) (λ may. now t c early (crash c may)) (time.nothing_else t c early left)
 
 -- what is left, by what a file held
-pub all-stays : {M D : Type 0} (left_since : D → ℕ → List ℕ → Type 0) (moment : D → ℕ) (sh : Shape) (was : List ℕ) (holding held : Holding) (result : Result M (Unbegun × D)) (Such : Unbegun → List ℕ → Type 0)
-    → holding ≡ held → ((unbegun : Unbegun) (file : List ℕ) → Such unbegun file → Stays held unbegun sh was file)
+pub all-stays : {M D : Type 0} (left_since : D → ℕ → List ℕ → Type 0) (moment : D → ℕ) (sh : Shape) (was : List ℕ) (holding held : FileContents) (result : Result M (OpenFault × D)) (Such : OpenFault → List ℕ → Type 0)
+    → holding ≡ held → ((unbegun : OpenFault) (file : List ℕ) → Such unbegun file → Stays held unbegun sh was file)
     → IfErr result (λ e. Leaves left_since moment e.1 (Such e.0)) → IfErr result (λ e. Leaves left_since moment e.1 (Stays holding e.0 sh was))
 all-stays left_since moment sh was holding held result Such is goes left =
-    err_on result left (λ e l. subst (λ (h : Holding). Leaves left_since moment e.1 (Stays h e.0 sh was)) (sym is) (leaves-as left_since moment e.1 (Such e.0) (Stays held e.0 sh was) (goes e.0) l))
+    err_on result left (λ e l. subst (λ (h : FileContents). Leaves left_since moment e.1 (Stays h e.0 sh was)) (sym is) (leaves-as left_since moment e.1 (Such e.0) (Stays held e.0 sh was) (goes e.0) l))
 
 pub stands-alike : (sh : Shape) (was file : List ℕ) → StandsFor sh (operations was) file → OpensAlike sh was file
 stands-alike sh was file stands = record {
@@ -75,7 +75,7 @@ pub leaves-still : {D : Type 0} (may_leave : D → List ℕ → Type 0) (left_si
     → (Such : List ℕ → Type 0) → ((file : List ℕ) → file ≡ was → Such file) → Leaves left_since moment device Such
 leaves-still may_leave left_since moment device was only now Such same = record { since = moment device; before = omega arith; each = λ file left. ∣ same file (only file (now file left)) ∣₁ }
 
-pub still-written : (Reason : Type 0) (sh : Shape) (was : List ℕ) (unbegun : Unbegun) → Refrains Reason was unbegun → (file : List ℕ) → file ≡ was → StaysWritten unbegun sh was file
+pub still-written : (Reason : Type 0) (sh : Shape) (was : List ℕ) (unbegun : OpenFault) → Refrains Reason was unbegun → (file : List ℕ) → file ≡ was → StaysWritten unbegun sh was file
 still-written Reason sh was NoJournal r file same = same
 still-written Reason sh was (Damaged place) r file same = same
 still-written Reason sh was Memory r file same = inl same
@@ -88,7 +88,7 @@ still-written Reason sh was (Failed held) r file same = absurd r
 
 -- where a file is alike it is so also where less is said
 module _ {D : Type 0} (seen : D → List ℕ) (has_failed : D → Bool) (device : D) where
-  pub alike-stays : (sh : Shape) (was : List ℕ) (unbegun : Unbegun) → IsStopped seen has_failed unbegun device → (file : List ℕ) → OpensAlike sh was file → StaysWritten unbegun sh was file
+  pub alike-stays : (sh : Shape) (was : List ℕ) (unbegun : OpenFault) → IsStopped seen has_failed unbegun device → (file : List ℕ) → OpensAlike sh was file → StaysWritten unbegun sh was file
   alike-stays sh was (Failed held) stopped file alike = inl alike
   alike-stays sh was Memory stopped file alike = inr alike
   alike-stays sh was NotMade stopped file alike = inr alike
@@ -106,12 +106,12 @@ module _ (T : Type 0) (s t : State) (off : Off) where
   fails-opened sh was (inr (on, is)) o = subst (λ (x : State). IsOpened sh was x) (sym is) (record { head = o.head; shape = o.shape; content = o.content; ends = o.ends })
 
   pub fails-last : Syncs {T = T} s (Err off) t → IsLast (chart s) (chart t)
-  fails-last (inl (dark, is)) = subst (λ (x : State). IsLast (chart s) (chart x)) (sym is) (record { shape = refl; moment = refl; bytes = refl })
-  fails-last (inr (on, is)) = subst (λ (x : State). IsLast (chart s) (chart x)) (sym is) (record { shape = refl; moment = refl; bytes = refl })
+  fails-last (inl (dark, is)) = subst (λ (x : State). IsLast (chart s) (chart x)) (sym is) (record { shape = refl; sync = refl })
+  fails-last (inr (on, is)) = subst (λ (x : State). IsLast (chart s) (chart x)) (sym is) (record { shape = refl; sync = refl })
 
 -- and one that succeeded too
 pub synced-opened : {T : Type 0} (s t : State) (made : T) (sh : Shape) (was : List ℕ) → Syncs {T = T} s (Ok made) t → IsOpened sh was s → IsOpened sh was t
-synced-opened s t made sh was (on, plans, given, is) o = subst (λ (x : State). IsOpened sh was x) (sym is) (record { head = o.head; shape = o.shape; content = o.content; ends = o.ends })
+synced-opened s t made sh was (on, sync, is) o = subst (λ (x : State). IsOpened sh was x) (sym is) (record { head = o.head; shape = o.shape; content = o.content; ends = o.ends })
 
 -- the words that the file that was there opens as are found on a board that a restart began to take up
 kept-words : (sh : Shape) (was : List ℕ) (s t : State) → IsOpened sh was s → Kept (chart s) (chart t) → (file : List ℕ) → Reopens (chart t) file → KeepsWords sh was file
@@ -127,13 +127,13 @@ kept-words sh was s t o kept file r words opens =
     }
 
 module _ {D : Type 0} (left_since : D → ℕ → List ℕ → Type 0) (moment : D → ℕ) (sh : Shape) (was : List ℕ) (device : D) (s t : State) (o : IsOpened sh was s) (synced : IsSynced (chart s))
-    (last : (c : Chart) → IsSynced c → IsLast c (chart t) → (file : List ℕ) → left_since device c.plans file → ∥ Reopens c file ⊎ ((t.on ≡ false) × Reopens (chart t) file) ∥₁) (time : t.plans ≤ moment device) where
+    (crash : CrashLeaves (left_since device) (moment device) (chart t)) where
   -- a journal that was opened and closed again
   leaves-such : (Such : List ℕ → Type 0) → IsLast (chart s) (chart t) → ((file : List ℕ) → OpensAlike sh was file → Such file) → ((file : List ℕ) → Reopens (chart t) file → Such file) → Leaves left_since moment device Such
   leaves-such Such l alike now = record {
-    since = s.plans;
-    before = (let same : t.plans ≡ s.plans = l.moment in omega (arith, time, same));
-    each = λ file left. ∥∥₁_map (last (chart s) synced l file left) (λ e. either file e);
+    since = s.notes.last.moment;
+    before = (let same : t.notes.last.moment ≡ s.notes.last.moment = ap (λ (y : SyncNote). y.moment) l.sync in omega (arith, crash.time, same));
+    each = λ file left. ∥∥₁_map (crash.last (chart s) synced l file left) (λ e. either file e);
   }
     where
       either : (file : List ℕ) → Reopens (chart s) file ⊎ ((t.on ≡ false) × Reopens (chart t) file) → Such file
@@ -146,15 +146,15 @@ module _ {D : Type 0} (left_since : D → ℕ → List ℕ → Type 0) (moment :
   -- power failed while a memory was attached
   pub off-leaves : (setup : OfSetup) (held : ℕ) → AttachDeclines s setup AttachOff t → Leaves left_since moment device (StaysWritten (Failed held) sh was)
   off-leaves setup held (off, inl (dark, is)) =
-      leaves-such (StaysWritten (Failed held) sh was) (subst (λ (x : State). IsLast (chart s) (chart x)) (sym is) (record { shape = refl; moment = refl; bytes = refl }))
+      leaves-such (StaysWritten (Failed held) sh was) (subst (λ (x : State). IsLast (chart s) (chart x)) (sym is) (record { shape = refl; sync = refl }))
       (λ file alike. inl alike) (λ file r. inl (reopens-alike sh was s o file (subst (λ (x : State). Reopens (chart x) file) is r)))
   off-leaves setup held (off, inr (may, kept, cuts)) =
       let counted : Counted 0 0 (chart s) (chart t) = kept.counted in
-      leaves-such (StaysWritten (Failed held) sh was) (record { shape = sym kept.shape; moment = counted.plans; bytes = counted.given })
+      leaves-such (StaysWritten (Failed held) sh was) (record { shape = sym kept.shape; sync = ap (λ (n : Notes). n.last) counted.notes })
       (λ file alike. inl alike) (λ file r. inr (kept-words sh was s t o kept file r))
 
   -- a memory wasn't attached, by the fault
-  pub fault-leaves : (seen : D → List ℕ) (has_failed : D → Bool) (setup : OfSetup) (new : D) (unbegun : Unbegun) (fault : AttachFault) (held : ℕ) → AttachDeclines s setup fault t → SaysAttach seen has_failed device new unbegun fault held
+  pub fault-leaves : (seen : D → List ℕ) (has_failed : D → Bool) (setup : OfSetup) (new : D) (unbegun : OpenFault) (fault : AttachFault) (held : ℕ) → AttachDeclines s setup fault t → SaysAttach seen has_failed device new unbegun fault held
       → moment device ≤ moment new → ((n : ℕ) (file : List ℕ) → n ≤ moment device → left_since new n file → left_since device n file) → Leaves left_since moment new (StaysWritten unbegun sh was)
   fault-leaves seen has_failed setup new unbegun fault held d says later only = leaves-on left_since moment device new (StaysWritten unbegun sh was) later only (go says)
     where
@@ -162,8 +162,8 @@ module _ {D : Type 0} (left_since : D → ℕ → List ℕ → Type 0) (moment :
       lit stopped on =
           let same = attach-same fault s t setup on d in
           leaves-as left_since moment device (OpensAlike sh was) (StaysWritten unbegun sh was) (alike-stays seen has_failed new sh was unbegun stopped)
-          (leaves-alike (subst (λ (x : State). IsOpened sh was x) (sym same) o) (subst (λ (x : State). IsLast (chart s) (chart x)) (sym same) (record { shape = refl; moment = refl; bytes = refl })))
+          (leaves-alike (subst (λ (x : State). IsOpened sh was x) (sym same) o) (subst (λ (x : State). IsLast (chart s) (chart x)) (sym same) (record { shape = refl; sync = refl })))
 
       go : SaysAttach seen has_failed device new unbegun fault held → Leaves left_since moment device (StaysWritten unbegun sh was)
-      go (inl (off, why, goes)) = subst (λ (u : Unbegun). Leaves left_since moment device (StaysWritten u sh was)) (sym why) (off-leaves setup held (subst (λ (x : AttachFault). AttachDeclines s setup x t) off d))
+      go (inl (off, why, goes)) = subst (λ (u : OpenFault). Leaves left_since moment device (StaysWritten u sh was)) (sym why) (off-leaves setup held (subst (λ (x : AttachFault). AttachDeclines s setup x t) off d))
       go (inr (on, stopped)) = lit stopped on

@@ -7,8 +7,8 @@ use Rattle.envy_base.specs.declared.shape.Shape.{Shape}
 use Rattle.envy_begun.specs.Beginning.{HasStopped, IsStopped}
 use Rattle.envy_begun.specs.Plans.{ComesLater, IsFound, IsPlanned}
 use Rattle.envy_begun.specs.Unserved.{Causes, Declines, HasNoMemory, IsOver, Refrains, Refuses, held_for, status_for}
-use Rattle.envy_begun.specs.declared.unbegun.Unbegun.{Unbegun}
-use Rattle.envy_begun.specs.declared.unbegun.Unbegun.TheVariants.{Setup, NoJournal, OtherVersion, OtherSizes, Options, Damaged, Memory, NotMade, Failed}
+use Rattle.envy_begun.specs.declared.open_fault.OpenFault.{OpenFault}
+use Rattle.envy_begun.specs.declared.open_fault.OpenFault.TheVariants.{Setup, NoJournal, OtherVersion, OtherSizes, Options, Damaged, Memory, NotMade, Failed}
 use Rattle.envy_begun.proofs.Again.{declines-for}
 use Rattle.envy_journal.specs.Content.{HasMisfit}
 use Rattle.envy_journal.specs.Reading.{operations}
@@ -16,7 +16,7 @@ use Rattle.envy_journal.specs.declared.operation.Operation.{Operation}
 use Rattle.envy_policy.specs.declared.setup.Setup.{Setup as OfSetup}
 
 module _ {D : Type 0} (seen : D → List ℕ) (has_failed : D → Bool) (options : KeepOptions) (file : List ℕ) (old new : D) where
-  pub refused-causes : (unbegun : Unbegun) → Refuses options file unbegun → new ≡ old → Causes seen has_failed options file old new unbegun
+  pub refused-causes : (unbegun : OpenFault) → Refuses options file unbegun → new ≡ old → Causes seen has_failed options file old new unbegun
   refused-causes (Setup fault) r same = (r, same)
   refused-causes NoJournal r same = (r, same)
   refused-causes (Damaged place) r same = (r, same)
@@ -27,7 +27,7 @@ module _ {D : Type 0} (seen : D → List ℕ) (has_failed : D → Bool) (options
   refused-causes NotMade r same = absurd r
   refused-causes (Failed held) r same = absurd r
 
-  pub stopped-causes : (unbegun : Unbegun) → IsStopped seen has_failed unbegun new → Causes seen has_failed options file old new unbegun
+  pub stopped-causes : (unbegun : OpenFault) → IsStopped seen has_failed unbegun new → Causes seen has_failed options file old new unbegun
   stopped-causes (Setup fault) s = absurd s
   stopped-causes NoJournal s = absurd s
   stopped-causes (Damaged place) s = absurd s
@@ -38,7 +38,7 @@ module _ {D : Type 0} (seen : D → List ℕ) (has_failed : D → Bool) (options
   stopped-causes NotMade s = s
   stopped-causes (Failed held) s = s
 
-  refrained-causes : (setup : OfSetup) (unbegun : Unbegun) → IsFound options file setup → Refrains (HasNoMemory setup.shape file) file unbegun → new ≡ old → Causes seen has_failed options file old new unbegun
+  refrained-causes : (setup : OfSetup) (unbegun : OpenFault) → IsFound options file setup → Refrains (HasNoMemory setup.shape file) file unbegun → new ≡ old → Causes seen has_failed options file old new unbegun
   refrained-causes setup NoJournal f r same = ((IsFound.made f, inr (setup.shape, IsOver.head (IsFound.over f), IsOver.six (IsFound.over f), inr r)), same)
   refrained-causes setup (Damaged place) f r same = ((IsFound.made f, setup.shape, IsFound.over f, r), same)
   refrained-causes setup Memory f r same = inl same
@@ -49,12 +49,12 @@ module _ {D : Type 0} (seen : D → List ℕ) (has_failed : D → Bool) (options
   refrained-causes setup (Options fault) f r same = absurd r
   refrained-causes setup (Failed held) f r same = absurd r
 
-  pub declined-causes : (setup : OfSetup) (unbegun : Unbegun) → IsFound options file setup → Declines seen has_failed (HasNoMemory setup.shape file) file old unbegun new → Causes seen has_failed options file old new unbegun
+  pub declined-causes : (setup : OfSetup) (unbegun : OpenFault) → IsFound options file setup → Declines seen has_failed (HasNoMemory setup.shape file) file old unbegun new → Causes seen has_failed options file old new unbegun
   declined-causes setup unbegun f (inl (r, same)) = refrained-causes setup unbegun f r same
   declined-causes setup unbegun f (inr stopped) = stopped-causes unbegun stopped
 
   -- at status 6 the file has failed, or with what was held back from it is at the end of its range
-  pub stopped-unserved : (unbegun : Unbegun) (status held : ℕ) → status ≡ status_for unbegun → held ≡ held_for unbegun → Causes seen has_failed options file old new unbegun → status ≡ 6 → HasStopped seen has_failed held new
+  pub stopped-unserved : (unbegun : OpenFault) (status held : ℕ) → status ≡ status_for unbegun → held ≡ held_for unbegun → Causes seen has_failed options file old new unbegun → status ≡ 6 → HasStopped seen has_failed held new
   stopped-unserved (Setup fault) status held is held_is causes six = let never : 2 ≡ 6 = sym is ∙ six in absurd (omega arith)
   stopped-unserved NoJournal status held is held_is causes six = let never : 10 ≡ 6 = sym is ∙ six in absurd (omega arith)
   stopped-unserved (Damaged place) status held is held_is causes six = let never : 10 ≡ 6 = sym is ∙ six in absurd (omega arith)
@@ -65,7 +65,7 @@ module _ {D : Type 0} (seen : D → List ℕ) (has_failed : D → Bool) (options
   stopped-unserved Memory status held is held_is causes six = let never : 8 ≡ 6 = sym is ∙ six in absurd (omega arith)
   stopped-unserved (Failed n) status held is held_is causes six = subst (λ (k : ℕ). HasStopped seen has_failed k new) (sym held_is) causes
 
-pub all-declined : {M D : Type 0} (seen : D → List ℕ) (has_failed : D → Bool) (options : KeepOptions) (file : List ℕ) (old : D) (setup : OfSetup) (result : Result M (Unbegun × D)) → IsFound options file setup
+pub all-declined : {M D : Type 0} (seen : D → List ℕ) (has_failed : D → Bool) (options : KeepOptions) (file : List ℕ) (old : D) (setup : OfSetup) (result : Result M (OpenFault × D)) → IsFound options file setup
     → (Reason : Type 0) → (Reason → HasNoMemory setup.shape file)
     → IfErr result (λ e. Declines seen has_failed Reason file old e.0 e.1) → IfErr result (λ e. Causes seen has_failed options file old e.1 e.0)
 all-declined seen has_failed options file old setup (Ok memory) found Reason none declined = tt
@@ -77,7 +77,7 @@ pub some-misfit : (sh : Shape) (file : List ℕ) → HasMisfit sh (operations fi
 some-misfit sh file misfit none = let gone = subst (λ (l : List Operation). Contains l misfit.0) none misfit.1 in omega (arith, gone.1)
 
 -- a reason that comes behind a plan
-pub later : (options : KeepOptions) (file : List ℕ) (unbegun : Unbegun) → IsPlanned options file → ComesLater options file unbegun
+pub later : (options : KeepOptions) (file : List ℕ) (unbegun : OpenFault) → IsPlanned options file → ComesLater options file unbegun
 later options file Memory planned = planned
 later options file NotMade planned = planned
 later options file (Failed held) planned = planned
@@ -89,7 +89,7 @@ later options file OtherSizes planned = tt
 later options file (Options fault) planned = tt
 
 -- and one that comes with it
-pub sooner : (options : KeepOptions) (file : List ℕ) (unbegun : Unbegun) → Refuses options file unbegun → ComesLater options file unbegun
+pub sooner : (options : KeepOptions) (file : List ℕ) (unbegun : OpenFault) → Refuses options file unbegun → ComesLater options file unbegun
 sooner options file Memory refuses = absurd refuses
 sooner options file NotMade refuses = absurd refuses
 sooner options file (Failed held) refuses = absurd refuses

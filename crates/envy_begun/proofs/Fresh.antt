@@ -3,18 +3,18 @@ use Rattle.std.proofs.Common.{◌≡◌, ◌⊎◌, ◌∙◌, ◌≤◌, inl, i
 use Rattle.std.specs.Prelude.{IsTrue, slice_index}
 use Rattle.std.proofs.Math.Logic.{∥∥₁_map}
 use Rattle.std.proofs.lemmas.Bool.{false≢true}
-use Rattle.envy_base.specs.Array.{Array, zeros}
+use Rattle.envy_array.specs.Array.{Array, zeros}
 use Rattle.envy_base.specs.Map.{words_of}
-use Rattle.envy_base.specs.State.{State}
+use Rattle.envy_base.specs.State.{Notes, SyncNote, State}
 use Rattle.envy_base.specs.declared.board.Off.{Off}
 use Rattle.envy_base.specs.declared.shape.Shape.{Shape}
-use Rattle.envy_base.proofs.Undoing.{undo_all-closed}
+use Rattle.envy_array.proofs.Undoing.{undo_all-closed}
 use Rattle.envy_begun.specs.Left.{IsUnformatted, Leaves, OpensAsZeros, StaysNew}
 use Rattle.envy_begun.specs.Beginning.{IsStopped}
 use Rattle.envy_begun.specs.Unserved.{Refrains}
 use Rattle.envy_begun.specs.Opens.{OpensAs}
-use Rattle.envy_begun.specs.declared.unbegun.Unbegun.{Unbegun}
-use Rattle.envy_begun.specs.declared.unbegun.Unbegun.TheVariants.{Damaged, Failed, Memory, NoJournal, NotMade, Setup, OtherVersion, OtherSizes, Options}
+use Rattle.envy_begun.specs.declared.open_fault.OpenFault.{OpenFault}
+use Rattle.envy_begun.specs.declared.open_fault.OpenFault.TheVariants.{Damaged, Failed, Memory, NoJournal, NotMade, Setup, OtherVersion, OtherSizes, Options}
 use Rattle.envy_begun.proofs.Again.{SaysFault}
 use Rattle.envy_begun.proofs.Alike.{leaves-as, leaves-on}
 use Rattle.envy_begun.proofs.Opening.{opens-as}
@@ -23,18 +23,18 @@ use Rattle.envy_journal.specs.Content.{holds}
 use Rattle.envy_journal.specs.Head.{IsNewOrUnmade, IsUnmade, StandsFor}
 use Rattle.envy_journal.specs.Reading.{operations}
 use Rattle.envy_journal.specs.declared.operation.Operation.{Operation}
-use Rattle.envy_layout.specs.Stands.{Holds, Stands}
-use Rattle.envy_layout.specs.Words.{durable}
+use Rattle.envy_meaning.specs.Stands.{Holds, Stands}
+use Rattle.envy_soundness.specs.Words.{durable}
 use Rattle.envy_map.specs.Fields.{Chart, Fields, chart, map_fields}
 use Rattle.envy_memory.specs.Formats.{CountsFormat, MayFormat, Refuses}
 use Rattle.envy_memory.specs.declared.faults.FormatFault.{FormatFault}
 use Rattle.envy_memory.specs.declared.faults.FormatFault.TheVariants.{Off as FormatOff, Setup as FormatSetup, OtherShape, Memory as FormatMemory, Bad}
 use Rattle.envy_policy.specs.declared.setup.Setup.{Setup as OfSetup}
-use Rattle.envy_synced.specs.Disk.{IsLast, IsSynced, Reopens}
+use Rattle.envy_synced.specs.Disk.{CrashLeaves, IsLast, IsSynced, Reopens}
 
 -- where nothing was done in a journal it is so also where less is said
 module _ {D : Type 0} (seen : D → List ℕ) (has_failed : D → Bool) (device : D) where
-  pub stands-stays : (sh : Shape) (was : List ℕ) (unbegun : Unbegun) → IsStopped seen has_failed unbegun device → (file : List ℕ) → StandsFor sh [] file → StaysNew unbegun sh was file
+  pub stands-stays : (sh : Shape) (was : List ℕ) (unbegun : OpenFault) → IsStopped seen has_failed unbegun device → (file : List ℕ) → StandsFor sh [] file → StaysNew unbegun sh was file
   stands-stays sh was (Failed held) stopped file stands = inl stands
   stands-stays sh was Memory stopped file stands = inr stands
   stands-stays sh was NotMade stopped file stands = inr stands
@@ -46,11 +46,11 @@ module _ {D : Type 0} (seen : D → List ℕ) (has_failed : D → Bool) (device 
   stands-stays sh was (Damaged place) stopped file stands = absurd stopped
 
   -- what creating a journal may leave
-  pub new-stays : (made sh : Shape) → made ≡ sh → (unbegun : Unbegun) → IsStopped seen has_failed unbegun device → (file : List ℕ) → IsNewOrUnmade made file → IsUnmade file ⊎ StaysNew unbegun sh [] file
+  pub new-stays : (made sh : Shape) → made ≡ sh → (unbegun : OpenFault) → IsStopped seen has_failed unbegun device → (file : List ℕ) → IsNewOrUnmade made file → IsUnmade file ⊎ StaysNew unbegun sh [] file
   new-stays made sh is unbegun stopped file (inl unmade) = inl unmade
   new-stays made sh is unbegun stopped file (inr stands) = inr (stands-stays sh [] unbegun stopped file (subst (λ (x : Shape). StandsFor x [] file) is stands))
 
-pub still-new : (Reason : Type 0) (sh : Shape) (was : List ℕ) (unbegun : Unbegun) → Refrains Reason was unbegun → (file : List ℕ) → file ≡ was → StaysNew unbegun sh was file
+pub still-new : (Reason : Type 0) (sh : Shape) (was : List ℕ) (unbegun : OpenFault) → Refrains Reason was unbegun → (file : List ℕ) → file ≡ was → StaysNew unbegun sh was file
 still-new Reason sh was NoJournal r file same = same
 still-new Reason sh was (Damaged place) r file same = same
 still-new Reason sh was Memory r file same = inl same
@@ -70,7 +70,7 @@ refused-on old new setup FormatMemory other (may, is) = subst (λ (x : State). I
 refused-on old new setup Bad other (may, on, clear, bads) = on
 
 pub counts-last : (was old new : Chart) → CountsFormat old new → IsLast was old → IsLast was new
-counts-last was old new c l = record { shape = l.shape ∙ sym c.shape; moment = c.counted.plans ∙ l.moment; bytes = c.counted.given ∙ l.bytes }
+counts-last was old new c l = record { shape = l.shape ∙ sym c.shape; sync = ap (λ (n : Notes). n.last) c.counted.notes ∙ l.sync }
 
 word-first : (sh : Shape) (sram : List ℕ) → (map_fields sh sram).magic ≡ slice_index sram 0
 unfolding map_fields
@@ -81,11 +81,11 @@ zero-first zero = refl
 zero-first (suc n) = refl
 
 -- a board on which nothing was done isn't formatted
-blank-first : (s : State) (synced : IsSynced (chart s)) → operations synced.bytes ≡ [] → slice_index s.sram 0 ≡ 0
+blank-first : (s : State) (synced : IsSynced (chart s)) → operations s.notes.last.bytes ≡ [] → slice_index s.sram 0 ≡ 0
 blank-first s synced none =
     sym (word-first s.shape s.sram)
     ∙ ap (λ (f : Fields). f.magic) (sym synced.fields)
-    ∙ word-first s.shape (holds s.shape (operations synced.bytes)).sram
+    ∙ word-first s.shape (holds s.shape (operations s.notes.last.bytes)).sram
     ∙ ap (λ (p : List Operation). slice_index (holds s.shape p).sram 0) none
     ∙ zero-first (words_of s.shape)
 
@@ -103,22 +103,22 @@ opens-zeros sh c is h file r =
     (subst (λ (words : List ℕ). OpensAs c.shape words file) none (opens-as c file (record { magic = h.magic; version = h.version; sound = h.sound }) r))
 
 -- power failed while a memory was formatted
-off-stays : (sh : Shape) (s t : State) (setup : OfSetup) (synced : IsSynced (chart s)) → operations synced.bytes ≡ [] → s.shape ≡ sh → t.shape ≡ s.shape → Refuses s setup FormatOff t → (file : List ℕ) → Reopens (chart t) file → OpensAsZeros sh file ⊎ IsUnformatted sh file
+off-stays : (sh : Shape) (s t : State) (setup : OfSetup) (synced : IsSynced (chart s)) → operations s.notes.last.bytes ≡ [] → s.shape ≡ sh → t.shape ≡ s.shape → Refuses s setup FormatOff t → (file : List ℕ) → Reopens (chart t) file → OpensAsZeros sh file ⊎ IsUnformatted sh file
 off-stays sh s t setup synced none is same (off, inl (dark, still)) file r = inr (unformatted sh t (same ∙ is) (ap (λ (x : State). slice_index x.sram 0) still ∙ blank-first s synced none) file r)
 off-stays sh s t setup synced none is same (off, inr (may, inl clear, cuts)) file r = inr (unformatted sh t (same ∙ is) clear file r)
 off-stays sh s t setup synced none is same (off, inr (may, inr (inl (flash, sram)), cuts)) file r = inr (unformatted sh t (same ∙ is) (ap (λ (xs : List ℕ). slice_index xs 0) sram ∙ blank-first s synced none) file r)
 off-stays sh s t setup synced none is same (off, inr (may, inr (inr stood), cuts)) file r = inl (opens-zeros sh (chart t) (same ∙ is) stood file r)
 
-module _ {D : Type 0} (left_since : D → ℕ → List ℕ → Type 0) (moment : D → ℕ) (sh : Shape) (device : D) (was now : Chart) (synced : IsSynced was) (none : operations synced.bytes ≡ []) (is : was.shape ≡ sh) (l : IsLast was now)
-    (reads : (file : List ℕ) → left_since device was.plans file → ∥ StandsFor was.shape (operations synced.bytes) file ⊎ ((now.on ≡ false) × Reopens now file) ∥₁) (time : now.plans ≤ moment device) where
+module _ {D : Type 0} (left_since : D → ℕ → List ℕ → Type 0) (moment : D → ℕ) (sh : Shape) (device : D) (was now : Chart) (synced : IsSynced was) (none : operations was.notes.last.bytes ≡ []) (is : was.shape ≡ sh) (l : IsLast was now)
+    (crash : CrashLeaves (left_since device) (moment device) now) where
   leaves-new : (Such : List ℕ → Type 0) → ((file : List ℕ) → StandsFor sh [] file → Such file) → ((file : List ℕ) → now.on ≡ false → Reopens now file → Such file) → Leaves left_since moment device Such
   leaves-new Such stands off = record {
-    since = was.plans;
-    before = (let same : now.plans ≡ was.plans = l.moment in omega (arith, time, same));
-    each = λ file left. ∥∥₁_map (reads file left) (λ e. either file e);
+    since = was.notes.last.moment;
+    before = (let same : now.notes.last.moment ≡ was.notes.last.moment = ap (λ (y : SyncNote). y.moment) l.sync in omega (arith, crash.time, same));
+    each = λ file left. ∥∥₁_map (crash.reads was l file left) (λ e. either file e);
   }
     where
-      either : (file : List ℕ) → StandsFor was.shape (operations synced.bytes) file ⊎ ((now.on ≡ false) × Reopens now file) → Such file
+      either : (file : List ℕ) → StandsFor was.shape (operations was.notes.last.bytes) file ⊎ ((now.on ≡ false) × Reopens now file) → Such file
       either file (inl s) = stands file (subst (λ (x : Shape). StandsFor x [] file) is (subst (λ (p : List Operation). StandsFor was.shape p file) none s))
       either file (inr (dark, r)) = off file dark r
 
@@ -130,24 +130,24 @@ module _ {D : Type 0} (left_since : D → ℕ → List ℕ → Type 0) (moment :
   pub dark-leaves : (before : List ℕ) (held : ℕ) → ((file : List ℕ) → Reopens now file → OpensAsZeros sh file ⊎ IsUnformatted sh file) → Leaves left_since moment device (StaysNew (Failed held) sh before)
   dark-leaves before held such = leaves-new (StaysNew (Failed held) sh before) (λ file stands. inl stands) (λ file dark r. inr (such file r))
 
-module _ {D : Type 0} (left_since : D → ℕ → List ℕ → Type 0) (moment : D → ℕ) (sh : Shape) (device : D) (s t : State) (synced : IsSynced (chart s)) (none : operations synced.bytes ≡ []) (is : s.shape ≡ sh) (counts : CountsFormat (chart s) (chart t))
-    (reads : (file : List ℕ) → left_since device s.plans file → ∥ StandsFor s.shape (operations synced.bytes) file ⊎ ((t.on ≡ false) × Reopens (chart t) file) ∥₁) (time : t.plans ≤ moment device) where
+module _ {D : Type 0} (left_since : D → ℕ → List ℕ → Type 0) (moment : D → ℕ) (sh : Shape) (device : D) (s t : State) (synced : IsSynced (chart s)) (none : operations s.notes.last.bytes ≡ []) (is : s.shape ≡ sh) (counts : CountsFormat (chart s) (chart t))
+    (crash : CrashLeaves (left_since device) (moment device) (chart t)) where
   last : IsLast (chart s) (chart t)
-  last = counts-last (chart s) (chart s) (chart t) counts (record { shape = refl; moment = refl; bytes = refl })
+  last = counts-last (chart s) (chart s) (chart t) counts (record { shape = refl; sync = refl })
 
   format-off : (before : List ℕ) (setup : OfSetup) (held : ℕ) → Refuses s setup FormatOff t → Leaves left_since moment device (StaysNew (Failed held) sh before)
-  format-off before setup held r = dark-leaves left_since moment sh device (chart s) (chart t) synced none is last reads time before held (λ file re. off-stays sh s t setup synced none is counts.shape r file re)
+  format-off before setup held r = dark-leaves left_since moment sh device (chart s) (chart t) synced none is last crash before held (λ file re. off-stays sh s t setup synced none is counts.shape r file re)
 
   format-on : (setup : OfSetup) (fault : FormatFault) → (fault ≡ FormatOff → ⊥) → Refuses s setup fault t → Leaves left_since moment device (StandsFor sh [])
-  format-on setup fault other r = lit-leaves left_since moment sh device (chart s) (chart t) synced none is last reads time (refused-on s t setup fault other r)
+  format-on setup fault other r = lit-leaves left_since moment sh device (chart s) (chart t) synced none is last crash (refused-on s t setup fault other r)
 
   -- a memory wasn't formatted
-  pub format-leaves : (before : List ℕ) (seen : D → List ℕ) (has_failed : D → Bool) (setup : OfSetup) (new : D) (unbegun : Unbegun) (fault : FormatFault) (held : ℕ) → Refuses s setup fault t → SaysFault seen has_failed device new unbegun fault held
+  pub format-leaves : (before : List ℕ) (seen : D → List ℕ) (has_failed : D → Bool) (setup : OfSetup) (new : D) (unbegun : OpenFault) (fault : FormatFault) (held : ℕ) → Refuses s setup fault t → SaysFault seen has_failed device new unbegun fault held
       → moment device ≤ moment new → ((n : ℕ) (file : List ℕ) → n ≤ moment device → left_since new n file → left_since device n file) → Leaves left_since moment new (StaysNew unbegun sh before)
   format-leaves before seen has_failed setup new unbegun fault held r says later only = leaves-on left_since moment device new (StaysNew unbegun sh before) later only (go says)
     where
       go : SaysFault seen has_failed device new unbegun fault held → Leaves left_since moment device (StaysNew unbegun sh before)
-      go (inl (off, why, goes)) = subst (λ (u : Unbegun). Leaves left_since moment device (StaysNew u sh before)) (sym why) (format-off before setup held (subst (λ (f : FormatFault). Refuses s setup f t) off r))
+      go (inl (off, why, goes)) = subst (λ (u : OpenFault). Leaves left_since moment device (StaysNew u sh before)) (sym why) (format-off before setup held (subst (λ (f : FormatFault). Refuses s setup f t) off r))
       go (inr (other, stopped)) = leaves-as left_since moment device (StandsFor sh []) (StaysNew unbegun sh before) (stands-stays seen has_failed new sh before unbegun stopped) (format-on setup fault other r)
 
 pub off-refused : (s t : State) (setup : OfSetup) (fault : FormatFault) → Refuses s setup fault t → fault ≡ FormatOff → t.on ≡ false
@@ -164,16 +164,16 @@ fails-shape old new off (inr (on, is)) = ap (λ (c : Chart). c.shape) is
 
 fails-last : (was old new : Chart) (off : Off) → SyncsChart {T = Unit {0}} old (Err off) new → IsLast was old → IsLast was new
 fails-last was old new off (inl (dark, is)) l = subst (λ (c : Chart). IsLast was c) (sym is) l
-fails-last was old new off (inr (on, is)) l = subst (λ (c : Chart). IsLast was c) (sym is) (record { shape = l.shape; moment = l.moment; bytes = l.bytes })
+fails-last was old new off (inr (on, is)) l = subst (λ (c : Chart). IsLast was c) (sym is) (record { shape = l.shape; sync = l.sync })
 
 -- the first sync of a memory of zeros failed
-pub sync-off : {D : Type 0} (before : List ℕ) (left_since : D → ℕ → List ℕ → Type 0) (moment : D → ℕ) (sh : Shape) (device : D) (was old new : Chart) (off : Off) (held : ℕ) (synced : IsSynced was) → operations synced.bytes ≡ [] → IsLast was old → old.shape ≡ sh
+pub sync-off : {D : Type 0} (before : List ℕ) (left_since : D → ℕ → List ℕ → Type 0) (moment : D → ℕ) (sh : Shape) (device : D) (was old new : Chart) (off : Off) (held : ℕ) (synced : IsSynced was) → operations was.notes.last.bytes ≡ [] → IsLast was old → old.shape ≡ sh
     → SyncsChart {T = Unit {0}} old (Err off) new → Stands old (zeros sh.pages sh.shadows)
-    → (IsLast was new → (file : List ℕ) → left_since device was.plans file → ∥ StandsFor was.shape (operations synced.bytes) file ⊎ ((new.on ≡ false) × Reopens new file) ∥₁) → new.plans ≤ moment device
+    → CrashLeaves (left_since device) (moment device) new
     → Leaves left_since moment device (StaysNew (Failed held) sh before)
-sync-off before left_since moment sh device was old new off held synced none l is fails stands reads time =
+sync-off before left_since moment sh device was old new off held synced none l is fails stands crash =
     let then = fails-last was old new off fails l in
     let shape : new.shape ≡ sh = fails-shape old new off fails ∙ is in
     let stood : Holds new (zeros sh.pages sh.shadows) = fails-holds old new off (zeros sh.pages sh.shadows) fails (Stands.holds stands) in
-    dark-leaves left_since moment sh device was new synced none (then.shape ∙ shape) then (reads then) time before held
+    dark-leaves left_since moment sh device was new synced none (then.shape ∙ shape) then crash before held
     (λ file r. inl (opens-zeros sh new shape (subst (λ (x : Shape). Holds new (zeros x.pages x.shadows)) (sym shape) stood) file r))

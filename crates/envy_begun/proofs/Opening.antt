@@ -6,11 +6,11 @@ use Rattle.envy_journal.specs.Head.{head_bytes}
 use Rattle.envy_journal.specs.Log.{Begins}
 use Rattle.envy_begun.specs.Opens.{OpensAs}
 use Rattle.envy_synced.specs.Disk.{Reopens}
-use Rattle.envy_layout.specs.Sound.{IsSound}
-use Rattle.envy_layout.specs.Words.{durable}
+use Rattle.envy_soundness.specs.Sound.{IsSound}
+use Rattle.envy_soundness.specs.Words.{durable}
 use Rattle.envy_map.specs.Codes.{the_magic}
 use Rattle.envy_map.specs.Fields.{Chart, Fields}
-use Rattle.envy_saved.proofs.Reopened.{same_fields, same_sound, same_words}
+use Rattle.envy_synced.proofs.Reopened.{same_fields, same_sound, same_words}
 
 -- formatted in the newest version of its shape, and sound
 pub record IsGood (c : Chart) : Type 0 where

@@ -1,16 +1,15 @@
 -- A memory that is kept in a file, before its first line.
 use Rattle.std.specs.Prelude.{◌≡◌, ℕ, ◌+◌, ◌^◌, ◌<◌, ◌≤◌, IsTrue, Bool, false, List, ◌∷◌, length}
 use Rattle.envy_base.specs.Shape.{version_of}
-use Rattle.envy_base.specs.Array.{Array, undone}
-use Rattle.envy_begun.specs.declared.unbegun.Unbegun.{Unbegun}
-use Rattle.envy_begun.specs.declared.unbegun.Unbegun.TheVariants.{Failed, Memory, NotMade}
+use Rattle.envy_array.specs.Array.{Array, undone}
+use Rattle.envy_begun.specs.declared.open_fault.OpenFault.{OpenFault}
+use Rattle.envy_begun.specs.declared.open_fault.OpenFault.TheVariants.{Failed, Memory, NotMade}
 use Rattle.envy_journal.specs.Held.{most_held}
 use Rattle.envy_journal.specs.Reading.{operations}
 use Rattle.envy_synced.specs.Disk.{IsLast, IsSynced}
-use Rattle.envy_synced.specs.Number.{number}
-use Rattle.envy_layout.specs.Sound.{IsSound}
-use Rattle.envy_layout.specs.Stands.{Stands}
-use Rattle.envy_layout.specs.Words.{durable}
+use Rattle.envy_soundness.specs.Sound.{IsSound}
+use Rattle.envy_meaning.specs.Stands.{Stands}
+use Rattle.envy_soundness.specs.Words.{durable}
 use Rattle.envy_map.specs.Codes.{the_magic}
 use Rattle.envy_map.specs.Fields.{Chart}
 use Rattle.envy_memory.specs.Formats.{IsStarted}
@@ -31,12 +30,9 @@ pub record HasBegun (setup : Setup) (array : Array) (p : Picture) : Type 0 where
   pub begins : IsStarted setup p
   pub shape : p.chart.shape ≡ setup.shape
 
--- the journal that a board's numbers tell is on the disk has the operations of a file, each as it was
-pub record HasOperationsOf (file : List ℕ) (c : Chart) : Type 0 where
-  pub hindrances : ℕ
-  pub bytes : List ℕ
-  pub coded : c.given ≡ number (hindrances ∷ bytes)
-  pub same : operations bytes ≡ operations file
+-- the journal that the last sync brought to the disk has the operations of a file, each as it was
+abbrev pub HasOperationsOf : List ℕ → Chart → Type 0
+HasOperationsOf file c = operations c.notes.last.bytes ≡ operations file
 
 -- the file failed, or with so many bytes held back from it, and no more than a log holds, is at the end of its range
 abbrev pub HasStopped : {D : Type 0} → (D → List ℕ) → (D → Bool) → ℕ → D → Type 0
@@ -44,7 +40,7 @@ HasStopped seen has_failed held device = (held ≤ most_held) × (length (seen d
 
 -- why a new memory isn't there: the file stopped, or memory ran out or no second file was made and the last call on the file
 -- was done
-abbrev pub IsStopped : {D : Type 0} → (D → List ℕ) → (D → Bool) → Unbegun → D → Type 0
+abbrev pub IsStopped : {D : Type 0} → (D → List ℕ) → (D → Bool) → OpenFault → D → Type 0
 IsStopped seen has_failed (Failed held) device = HasStopped seen has_failed held device
 IsStopped seen has_failed Memory device = has_failed device ≡ false
 IsStopped seen has_failed NotMade device = has_failed device ≡ false

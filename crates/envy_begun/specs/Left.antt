@@ -1,19 +1,19 @@
 -- What a crash leaves of a file in which no memory began.
 use Rattle.std.specs.Prelude.{◌≡◌, ◌⊎◌, ℕ, ◌≤◌, List, [], slice_index}
-use Rattle.envy_base.specs.Array.{zeros}
+use Rattle.envy_array.specs.Array.{zeros}
 use Rattle.envy_base.specs.State.{State}
 use Rattle.envy_base.specs.declared.shape.Shape.{Shape}
 use Rattle.envy_begun.specs.Opens.{OpensAs}
-use Rattle.envy_begun.specs.declared.planning.Holding.{Holding}
-use Rattle.envy_begun.specs.declared.planning.Holding.TheVariants.{Unmade, Blank, Written}
-use Rattle.envy_begun.specs.declared.unbegun.Unbegun.{Unbegun}
-use Rattle.envy_begun.specs.declared.unbegun.Unbegun.TheVariants.{Failed, Memory, NotMade}
+use Rattle.envy_begun.specs.declared.file_contents.FileContents.{FileContents}
+use Rattle.envy_begun.specs.declared.file_contents.FileContents.TheVariants.{Unmade, Blank, Written}
+use Rattle.envy_begun.specs.declared.open_fault.OpenFault.{OpenFault}
+use Rattle.envy_begun.specs.declared.open_fault.OpenFault.TheVariants.{Failed, Memory, NotMade}
 use Rattle.envy_journal.specs.Content.{content_of, holds}
 use Rattle.envy_journal.specs.Head.{IsUnmade, StandsFor, head_bytes}
 use Rattle.envy_journal.specs.Log.{Begins}
 use Rattle.envy_journal.specs.Reading.{operations, IsUnbroken}
-use Rattle.envy_layout.specs.Sound.{IsSound}
-use Rattle.envy_layout.specs.Words.{durable}
+use Rattle.envy_soundness.specs.Sound.{IsSound}
+use Rattle.envy_soundness.specs.Words.{durable}
 use Rattle.envy_map.specs.Codes.{the_magic}
 use Rattle.envy_map.specs.Fields.{chart, map_fields}
 
@@ -55,7 +55,7 @@ OpensAsZeros sh file = OpensAs sh (zeros sh.pages sh.shadows).words file
 
 -- what is left of a journal in which nothing was done: that; or, where the file failed while the memory was formatted or
 -- brought to the disk, also zeros, or a memory that isn't formatted; where the file is refused it is left as it was
-abbrev pub StaysNew : Unbegun → Shape → List ℕ → List ℕ → Type 0
+abbrev pub StaysNew : OpenFault → Shape → List ℕ → List ℕ → Type 0
 StaysNew (Failed held) sh was file = StandsFor sh [] file ⊎ (OpensAsZeros sh file ⊎ IsUnformatted sh file)
 StaysNew Memory sh was file = (file ≡ was) ⊎ StandsFor sh [] file
 StaysNew NotMade sh was file = (file ≡ was) ⊎ StandsFor sh [] file
@@ -63,14 +63,14 @@ StaysNew other sh was file = file ≡ was
 
 -- what is left of a journal with operations: one alike; or, where the file failed, one in which the same words are found;
 -- where the file is refused it is left as it was
-abbrev pub StaysWritten : Unbegun → Shape → List ℕ → List ℕ → Type 0
+abbrev pub StaysWritten : OpenFault → Shape → List ℕ → List ℕ → Type 0
 StaysWritten (Failed held) sh was file = OpensAlike sh was file ⊎ KeepsWords sh was file
 StaysWritten Memory sh was file = (file ≡ was) ⊎ OpensAlike sh was file
 StaysWritten NotMade sh was file = (file ≡ was) ⊎ OpensAlike sh was file
 StaysWritten other sh was file = file ≡ was
 
 -- what is left of a file, by what it held
-abbrev pub Stays : Holding → Unbegun → Shape → List ℕ → List ℕ → Type 0
+abbrev pub Stays : FileContents → OpenFault → Shape → List ℕ → List ℕ → Type 0
 Stays Unmade unbegun sh was file = IsUnmade file ⊎ StaysNew unbegun sh [] file
 Stays Blank unbegun sh was file = StaysNew unbegun sh was file
 Stays Written unbegun sh was file = StaysWritten unbegun sh was file

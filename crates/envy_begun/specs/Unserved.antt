@@ -15,10 +15,10 @@ use Rattle.envy_args.specs.Words.{rule_within}
 use Rattle.envy_base.specs.declared.shape.TheConstants.{MOST_ROWS}
 use Rattle.envy_begun.specs.Beginning.{HasStopped, IsStopped}
 use Rattle.envy_begun.specs.Opens.{OpensAs}
-use Rattle.envy_begun.specs.declared.unbegun.Unbegun.{Unbegun}
-use Rattle.envy_begun.specs.declared.unbegun.Unbegun.TheVariants.{Setup, NoJournal, OtherVersion, OtherSizes, Options, Damaged, Memory, NotMade, Failed}
+use Rattle.envy_begun.specs.declared.open_fault.OpenFault.{OpenFault}
+use Rattle.envy_begun.specs.declared.open_fault.OpenFault.TheVariants.{Setup, NoJournal, OtherVersion, OtherSizes, Options, Damaged, Memory, NotMade, Failed}
 
-abbrev pub status_for : Unbegun → ℕ
+abbrev pub status_for : OpenFault → ℕ
 status_for (Setup fault) = 2
 status_for NoJournal = 10
 status_for OtherVersion = 10
@@ -29,7 +29,7 @@ status_for Memory = 8
 status_for NotMade = 11
 status_for (Failed held) = 6
 
-abbrev pub why_for : Unbegun → ℕ
+abbrev pub why_for : OpenFault → ℕ
 why_for (Setup fault) = rule_within MOST_ROWS fault
 why_for NoJournal = 6
 why_for OtherVersion = 7
@@ -41,12 +41,12 @@ why_for NotMade = 3
 why_for (Failed held) = 0
 
 -- how many bytes of operations were held back from the file
-abbrev pub held_for : Unbegun → ℕ
+abbrev pub held_for : OpenFault → ℕ
 held_for (Failed held) = held
 held_for other = 0
 
 -- the byte at which a damaged file breaks off
-abbrev pub place_for : Unbegun → ℕ
+abbrev pub place_for : OpenFault → ℕ
 place_for (Damaged place) = place
 place_for other = 0
 
@@ -69,7 +69,7 @@ pub record IsOver (options : KeepOptions) (sh : Shape) (file : List ℕ) : Type 
   pub named : shape_named options.sizes sh ≡ sh
 
 -- what the bytes of a file say of a refusal: the options are no reason where its sizes break a rule
-abbrev pub Refuses : KeepOptions → List ℕ → Unbegun → Type 0
+abbrev pub Refuses : KeepOptions → List ℕ → OpenFault → Type 0
 Refuses options file (Setup fault) = IsUnmade file × (checked (setup_over options (new_shape options)) ≡ Err fault)
 Refuses options file NoJournal = (IsUnmade file → ⊥) × IsNone file
 Refuses options file OtherVersion = (IsUnmade file → ⊥) × IsOtherVersion file
@@ -80,19 +80,19 @@ Refuses options file other = ⊥
 
 -- Why a file that held these bytes isn't served, and what became of it: on a file that is refused no call was made. Want of
 -- memory is told only where none was made, or where the last one was done.
-abbrev pub Causes : {D : Type 0} → (D → List ℕ) → (D → Bool) → KeepOptions → List ℕ → D → D → Unbegun → Type 0
+abbrev pub Causes : {D : Type 0} → (D → List ℕ) → (D → Bool) → KeepOptions → List ℕ → D → D → OpenFault → Type 0
 Causes seen has_failed options file old new (Failed held) = HasStopped seen has_failed held new
 Causes seen has_failed options file old new Memory = (new ≡ old) ⊎ (has_failed new ≡ false)
 Causes seen has_failed options file old new NotMade = has_failed new ≡ false
 Causes seen has_failed options file old new unbegun = Refuses options file unbegun × (new ≡ old)
 
 -- why a journal isn't taken up before the first call on its file: of its own reasons this one alone
-abbrev pub Refrains : Type 0 → List ℕ → Unbegun → Type 0
+abbrev pub Refrains : Type 0 → List ℕ → OpenFault → Type 0
 Refrains Reason file NoJournal = Reason
 Refrains Reason file (Damaged place) = IsDamaged place file
 Refrains Reason file Memory = ⊤
 Refrains Reason file other = ⊥
 
 -- why it isn't taken up, and what became of its file
-abbrev pub Declines : {D : Type 0} → (D → List ℕ) → (D → Bool) → Type 0 → List ℕ → D → Unbegun → D → Type 0
+abbrev pub Declines : {D : Type 0} → (D → List ℕ) → (D → Bool) → Type 0 → List ℕ → D → OpenFault → D → Type 0
 Declines seen has_failed Reason file old unbegun new = (Refrains Reason file unbegun × (new ≡ old)) ⊎ IsStopped seen has_failed unbegun new

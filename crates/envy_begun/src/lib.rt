@@ -5,15 +5,15 @@
 //! is audited before a memory is attached.
 #![tactic(auto)]
 
-mod beginning;
-mod planning;
-mod reopening;
-mod stopping;
-mod taking;
-mod unbegun;
+mod file_contents;
+mod found_journal;
+mod memory;
+mod new_memory;
+mod open_fault;
+mod refusal;
 
-pub use beginning::begin_new;
-pub use planning::{Holding, plan};
-pub use reopening::begin_again;
-pub use taking::begin;
-pub use unbegun::Unbegun;
+pub use file_contents::{FileContents, plan};
+pub use found_journal::begin_again;
+pub use memory::begin;
+pub use new_memory::begin_new;
+pub use open_fault::OpenFault;

@@ -5,14 +5,12 @@ use Rattle.std.proofs.lemmas.List.{get_or-replicate, get_or_past, length-replica
 use Rattle.envy_base.specs.declared.shape.Shape.{Shape}
 use Rattle.envy_base.specs.declared.board.Trouble.{Trouble}
 use Rattle.envy_base.specs.declared.board.Trouble.TheVariants.{Off as TroubleOff, Bad as TroubleBad}
-use Rattle.envy_base.specs.Counting.{up}
 use Rattle.envy_base.specs.State.{State, AreWords, IsPage, IsOnes, Only, Programs, Erases, cut, with_row, with_segment}
-use Rattle.envy_bank.specs.Rows.{BankState, IsBank, ErasesBlock}
-use Rattle.envy_bank.specs.Rows.{with_row as bank_with_row, up as bank_up}
-use Rattle.envy_power.specs.declared.supply.Event.{Event}
-use Rattle.envy_power.specs.declared.supply.Event.TheVariants.{Pass, Cut, Bad}
-use Rattle.envy_power.specs.Power.{Power, flash_event, flash_counted, struck}
-use Rattle.envy_power.specs.Power.{up as power_up, cut as power_cut}
+use Rattle.envy_bank.specs.Rows.{BankState, IsBank, ErasesBlock, with_row as bank_with_row}
+use Rattle.envy_base.specs.Counting.{up}
+use Rattle.envy_bench.specs.declared.supply.Event.{Event}
+use Rattle.envy_bench.specs.declared.supply.Event.TheVariants.{Pass, Cut, Bad}
+use Rattle.envy_bench.specs.Power.{Power, flash_event, flash_counted, struck, up as power_up, cut as power_cut}
 use Rattle.envy_bench.specs.declared.plans.Plans.{Plans}
 use Rattle.envy_bench.specs.Parts.{state_of}
 use Rattle.envy_bench.specs.TornRows.{torn_row, TearsRows}
@@ -21,10 +19,6 @@ use Rattle.envy_bench.specs.Events.{EraseMeets}
 power_up-up : (n : ℕ) → power_up n ≡ up n
 unfolding power_up up
 power_up-up n = refl
-
-bank_up-up : (n : ℕ) → bank_up n ≡ up n
-unfolding bank_up up
-bank_up-up n = refl
 
 -- the rows of whole flash are pages
 pub IsPage-whole : (flash : BankState) (q : ℕ) → IsBank flash → q < length flash.flash → IsPage (get_or flash.flash q [])
@@ -43,14 +37,14 @@ module _ (sh : Shape) (flash new : BankState) (sram : List ℕ) (p now : Power) 
   was_bad is = ap (λ (t : Power). state_of sh new sram t begun pulled plans given) is ∙ ap (λ n. record (state_of sh new sram p begun pulled plans given) { bads = n }) (power_up-up p.bads)
 
   -- a segment with its count
-  counted : (e : ℕ) → new.erases ≡ set flash.erases e (bank_up (get_or flash.erases e 0)) → state_of sh new sram p begun pulled plans given ≡ with_segment (state_of sh flash sram p begun pulled plans given) e new.flash
-  counted e is = ap (λ (erases : List ℕ). record (state_of sh new sram p begun pulled plans given) { erases = erases }) (is ∙ ap (λ n. set flash.erases e n) (bank_up-up (get_or flash.erases e 0)))
+  counted : (e : ℕ) → new.erases ≡ set flash.erases e (up (get_or flash.erases e 0)) → state_of sh new sram p begun pulled plans given ≡ with_segment (state_of sh flash sram p begun pulled plans given) e new.flash
+  counted e is = ap (λ (erases : List ℕ). record (state_of sh new sram p begun pulled plans given) { erases = erases }) is
 
 -- an erase that is disturbed after the chips have done it
 pub record Disturbed (rows e g : ℕ) (flash new : BankState) : Type 0 where
   pub torn : TearsRows rows e g flash.flash new.flash
   pub only : Only rows e IsPage flash.flash new.flash
-  pub erases : new.erases ≡ set flash.erases e (bank_up (get_or flash.erases e 0))
+  pub erases : new.erases ≡ set flash.erases e (up (get_or flash.erases e 0))
 
 -- an erase that tears the segment
 pub disturbed : (rows e g : ℕ) (flash mid new : BankState) → flash.rows ≡ rows → ErasesBlock e flash mid → TearsRows mid.rows e g mid.flash new.flash → new ≡ record mid { flash = new.flash } → IsBank new → Disturbed rows e g flash new

@@ -1,3 +1,4 @@
 pub mod Boards
 pub mod Draws
 pub mod Tears
+pub mod PlansLemmas

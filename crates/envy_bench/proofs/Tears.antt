@@ -1,7 +1,7 @@
 -- Rows of a block that are filled one after another.
 use Rattle.std.proofs.Common.{◌≡◌, ◌≢◌, ◌∙◌, ℕ, ◌+◌, ◌*◌, ◌/◌, ◌<◌, List, [], length, get_or, set, refl, ap, arith, below_more, get_or-set_same, get_or-set_other, length-set}
 use Rattle.std.proofs.lemmas.Nat.{div-mul-add}
-use Rattle.envy_power.specs.Draws.{seeded, next_word}
+use Rattle.envy_bench.specs.Draws.{seeded, next_word}
 use Rattle.envy_bench.specs.TornRows.{after_steps, torn_row}
 use Rattle.envy_bench.proofs.Draws.{after_both}
 

@@ -1,6 +1,6 @@
 -- What a board in memory means.
 use Rattle.envy_base.specs.State.{State}
-use Rattle.envy_power.specs.Power.{Power}
+use Rattle.envy_bench.specs.Power.{Power}
 use Rattle.envy_bench.specs.declared.board.MemBoard.{MemBoard}
 use Rattle.envy_bench.specs.Parts.{state_of}
 

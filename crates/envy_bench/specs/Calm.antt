@@ -2,7 +2,7 @@
 use Rattle.std.specs.Prelude.{◌≡◌, IsTrue}
 use Rattle.std.specs.Option.{ForSome}
 use Rattle.envy_base.specs.State.{State}
-use Rattle.envy_power.specs.Power.{Power}
+use Rattle.envy_bench.specs.Power.{Power}
 
 -- power is on and never failed, no operation went wrong, and no plan stands
 pub record IsQuiet (s : State) (p : Power) : Type 0 where

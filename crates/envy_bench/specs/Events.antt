@@ -5,9 +5,9 @@ use Rattle.envy_base.specs.declared.board.Trouble.{Trouble}
 use Rattle.envy_base.specs.declared.board.Trouble.TheVariants.{Off as TroubleOff, Bad as TroubleBad}
 use Rattle.envy_base.specs.Counting.{up}
 use Rattle.envy_base.specs.State.{State, Only, IsOnes, ands, row_of, cut, with_word, with_row, with_segment}
-use Rattle.envy_power.specs.declared.supply.Event.{Event}
-use Rattle.envy_power.specs.declared.supply.Event.TheVariants.{Pass, Cut, Bad}
-use Rattle.envy_power.specs.Power.{Power, put_event, put_counted, flash_event, flash_counted, struck}
+use Rattle.envy_bench.specs.declared.supply.Event.{Event}
+use Rattle.envy_bench.specs.declared.supply.Event.TheVariants.{Pass, Cut, Bad}
+use Rattle.envy_bench.specs.Power.{Power, put_event, put_counted, flash_event, flash_counted, struck}
 use Rattle.envy_bench.specs.TornRows.{torn_row, TearsRows}
 
 -- a `put` of v into word w: a cut with an even g keeps the old word, and with an odd g the new one stands

@@ -4,3 +4,6 @@ pub mod CalmState
 pub mod Events
 pub mod Parts
 pub mod TornRows
+pub mod Power
+pub mod Plans
+pub mod Draws

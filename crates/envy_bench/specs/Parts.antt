@@ -1,10 +1,10 @@
 -- What the parts of a board in memory stand for.
 use Rattle.std.specs.Prelude.{ℕ, ◌*◌, true, List, replicate, None}
 use Rattle.envy_base.specs.declared.shape.Shape.{Shape}
-use Rattle.envy_base.specs.State.{State, ones}
+use Rattle.envy_base.specs.State.{State, no_notes, ones}
 use Rattle.envy_base.specs.Map.{words_of}
 use Rattle.envy_bank.specs.Rows.{BankState}
-use Rattle.envy_power.specs.Power.{Power}
+use Rattle.envy_bench.specs.Power.{Power}
 use Rattle.envy_bench.specs.declared.plans.Plans.{Plans}
 
 abbrev pub state_of : Shape → BankState → List ℕ → Power → ℕ → ℕ → Plans → ℕ → State
@@ -22,6 +22,7 @@ state_of shape flash sram power begun pulled plans given = record {
   last_plan = plans.last;
   lives = power.lives;
   given = given;
+  notes = no_notes;
 }
 
 -- a new board: all flash is ones, and all SRAM zeros
@@ -40,4 +41,5 @@ new_state shape lives = record {
   last_plan = None;
   lives = lives;
   given = lives;
+  notes = no_notes;
 }

@@ -1,7 +1,7 @@
 -- What a disturbed flash operation leaves in its rows: words drawn from a number, in order.
 use Rattle.std.specs.Prelude.{◌≡◌, ◌≢◌, ℕ, zero, suc, ◌*◌, ◌/◌, ◌%◌, ◌<◌, List, [], map, length, slice_index_or}
 use Rattle.std.specs.List.{range_with_len}
-use Rattle.envy_power.specs.Draws.{seeded, next_word}
+use Rattle.envy_bench.specs.Draws.{seeded, next_word}
 use Rattle.envy_base.specs.declared.page.TheConstants.{PAGE_WORDS}
 
 -- a generator after n steps, each of which gives a word and the generator after it

@@ -7,15 +7,15 @@ ghost use Rattle.envy_bench.specs.Parts.{state_of};
 
 use crate::flash::Flash;
 use crate::plans::Plans;
-use envy_base::{Bench, Board, NoMemory, Off, Page, PlannedFault, Shape, Trouble};
+use crate::{Event, Sram, Supply};
+use envy_base::{Bench, Board, NoMemory, Off, Page, PlannedFault, Shape, Trouble, more};
 use envy_map::words;
-use envy_power::{Event, Sram, Supply};
 use std::alloc::Global;
 
 /// A board in memory: four banks of flash chips, SRAM, and a supply of power that a test may make
 /// fail. A cut `put` keeps the old word where the plan's `g` is even, and has the new one where `g`
 /// is odd. A cut or bad `program` leaves in its row, and a cut or bad `erase` in the rows of its
-/// segment in order, the words that `envy_power::Torn` draws from `g`.
+/// segment in order, the words that `crate::Torn` draws from `g`.
 #[derive(Drop)]
 pub struct MemBoard {
     shape: Shape,
@@ -30,17 +30,10 @@ pub struct MemBoard {
     ghost same_rows: { flash.rows ≡ shape.rows },
 }
 
-#[tactic(auto, unfolding(envy_base::specs::Counting::up))]
-fn more(count: u64) -> u64
-    ensures { result ≡ up count }
-{
-    count.saturating_add(1)
-}
-
 impl MemBoard {
     ghost use Rattle.std.specs.Prelude.{IsTrue};
     ghost use Rattle.envy_base.specs.State.{Puts, Programs};
-    ghost use Rattle.envy_power.specs.Power.{fresh, put_event, flash_event};
+    ghost use Rattle.envy_bench.specs.Power.{fresh, put_event, flash_event};
     ghost use Rattle.envy_bench.specs.Parts.{new_state};
     ghost use Rattle.envy_bench.specs.Board.{board_state, board_power};
     ghost use Rattle.envy_bench.specs.Events.{PutMeets, ProgramMeets, after_put, after_flash};
@@ -91,7 +84,7 @@ impl MemBoard {
 
     /// Writes a word of SRAM where power is off or a cut is planned.
     #[cold]
-    #[tactic(auto, unfolding(envy_base::specs::Counting::up, envy_power::specs::Power::up))]
+    #[tactic(auto, unfolding(envy_base::specs::Counting::up, crate::specs::Power::up))]
     fn put_planned(&mut self, w: u32, v: u64) -> Result<(), Off>
         requires { w < length (board_state self.old).sram }
         ensures state { Puts (board_state self.old) w v result (board_state self.new) }
@@ -121,7 +114,7 @@ impl MemBoard {
     /// Programs a row where power is off or something is planned.
     #[cold]
     #[inline(never)]
-    #[tactic(auto, unfolding(envy_base::specs::Counting::up, envy_power::specs::Power::up))]
+    #[tactic(auto, unfolding(envy_base::specs::Counting::up, crate::specs::Power::up))]
     fn program_planned(&mut self, row: u32, page: &Page) -> Result<(), Trouble>
         requires { row < length (board_state self.old).flash }
         ensures state { Programs (board_state self.old) row page.now result (board_state self.new) }
@@ -154,7 +147,7 @@ impl MemBoard {
 impl Board for MemBoard {
     ghost use Rattle.std.specs.Prelude.{IsTrue};
     ghost use Rattle.envy_base.specs.State.{Puts, Programs, Erases};
-    ghost use Rattle.envy_power.specs.Power.{put_event, flash_event};
+    ghost use Rattle.envy_bench.specs.Power.{put_event, flash_event};
     ghost use Rattle.envy_bench.specs.Board.{board_state, board_power};
     ghost use Rattle.envy_bench.specs.Events.{PutMeets, ProgramMeets, EraseMeets, after_put, after_flash};
 
@@ -184,7 +177,7 @@ impl Board for MemBoard {
         Ok(self.sram.get(w))
     }
 
-    #[tactic(auto, unfolding(envy_base::specs::Counting::up, envy_power::specs::Power::up))]
+    #[tactic(auto, unfolding(envy_base::specs::Counting::up, crate::specs::Power::up))]
     fn program(&mut self, row: u32, page: &Page) -> Result<(), Trouble>
         requires { row < length (board_state self.old).flash }
         ensures state { Programs (board_state self.old) row page.now result (board_state self.new) }
@@ -201,7 +194,7 @@ impl Board for MemBoard {
         self.program_planned(row, page)
     }
 
-    #[tactic(auto, unfolding(envy_base::specs::Counting::up, envy_power::specs::Power::up))]
+    #[tactic(auto, unfolding(envy_base::specs::Counting::up, crate::specs::Power::up))]
     fn erase(&mut self, segment: u32) -> Result<(), Trouble>
         requires { segment < (board_state self.old).shape.segments }
         ensures state { Erases (board_state self.old) segment result (board_state self.new) }
@@ -228,7 +221,7 @@ impl Board for MemBoard {
         }
     }
 
-    #[tactic(auto, unfolding(envy_base::specs::Counting::up, envy_power::specs::Power::up))]
+    #[tactic(auto, unfolding(envy_base::specs::Counting::up, crate::specs::Power::up))]
     fn put(&mut self, w: u32, v: u64) -> Result<(), Off>
         requires { w < length (board_state self.old).sram }
         ensures state { Puts (board_state self.old) w v result (board_state self.new) }
@@ -248,7 +241,7 @@ impl Board for MemBoard {
 impl Bench for MemBoard {
     ghost use Rattle.std.specs.Prelude.{◌↔◌, ◌<◌, IsTrue, false, if◌then◌else◌};
     ghost use Rattle.envy_base.specs.State.{pull, lit, planned};
-    ghost use Rattle.envy_power.specs.Power.{with_cut, with_bad, cut as power_cut, lit as power_lit};
+    ghost use Rattle.envy_bench.specs.Power.{with_cut, with_bad, cut as power_cut, lit as power_lit};
     ghost use Rattle.envy_bench.specs.Board.{board_state, board_power};
 
     fn arm_cut(&mut self, k: u32, g: u64)
@@ -275,7 +268,7 @@ impl Bench for MemBoard {
         };
     }
 
-    #[tactic(auto, unfolding(envy_base::specs::Counting::up, envy_power::specs::Power::up))]
+    #[tactic(auto, unfolding(envy_base::specs::Counting::up, crate::specs::Power::up))]
     fn cut_now(&mut self)
         requires { IsTrue (board_state self.old).on }
         ensures state { board_state self.new ≡ pull (board_state self.old) }

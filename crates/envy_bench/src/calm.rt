@@ -68,7 +68,7 @@ impl Board for CalmBoard {
 impl Bench for CalmBoard {
     ghost use Rattle.std.specs.Prelude.{◌≤◌};
     ghost use Rattle.envy_base.specs.State.{planned};
-    ghost use Rattle.envy_power.specs.Power.{with_cut, with_bad};
+    ghost use Rattle.envy_bench.specs.Power.{with_cut, with_bad};
     ghost use Rattle.envy_bench.specs.CalmState.{calm_state};
 
     #[tactic(auto, unfolding(envy_base::specs::Counting::up))]

@@ -1,11 +1,12 @@
 ghost use Rattle.std.specs.Prelude.{◌≡◌, ◌*◌, ◌<◌, ◌≤◌, IfOk, length, slice_index};
-ghost use Rattle.envy_bank.specs.Rows.{IsBank, ErasesBlock, ands, erased_bank, row_of, with_row};
+ghost use Rattle.envy_base.specs.State.{ands};
+ghost use Rattle.envy_bank.specs.Rows.{IsBank, ErasesBlock, erased_bank, row_of, with_row};
 ghost use Rattle.envy_bench.specs.TornRows.{torn_row, TearsRows};
 
-use crate::torn::next_row;
+use crate::Torn;
+use crate::torn_rows::next_row;
 use envy_bank::{Bank, NoMemory};
 use envy_base::{MOST_ROWS, PAGE_WORDS, Page};
-use envy_power::Torn;
 use std::alloc::Global;
 use std::marker::Model;
 

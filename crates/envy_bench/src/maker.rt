@@ -1,7 +1,7 @@
 ghost use Rattle.std.specs.Prelude.{◌≡◌, IfOk};
 ghost use Rattle.envy_base.specs.Shape.{IsShape};
 ghost use Rattle.envy_base.specs.State.{IsMade};
-ghost use Rattle.envy_power.specs.Power.{fresh};
+ghost use Rattle.envy_bench.specs.Power.{fresh};
 ghost use Rattle.envy_bench.specs.Board.{board_state, board_power};
 ghost use Rattle.envy_bench.specs.Parts.{new_state};
 

@@ -4,7 +4,8 @@ use Rattle.std.specs.List.{flat_map}
 use Rattle.std.proofs.lemmas.Bool.{cases_lt, cases_eq}
 use Rattle.std.proofs.lemmas.List.{append-nil, get_or-set_same}
 use Rattle.envy_base.specs.declared.board.Trouble.{Trouble}
-use Rattle.envy_base.specs.Words.{Sheet, IsSheet, Fails, Rose}
+use Rattle.envy_array.specs.Words.{Sheet, IsSheet, Fails}
+use Rattle.envy_base.specs.Counting.{Rose}
 use Rattle.envy_btree.specs.declared.fault.TreeFault.{TreeFault}
 use Rattle.envy_btree.specs.declared.fault.TreeFault.TheVariants.{Off as FaultOff, Full, Bad}
 use Rattle.envy_btree.specs.Pairs.{assoc, with_pair, without}

@@ -6,8 +6,8 @@ use Rattle.std.proofs.lemmas.List.Edits.{length-remove}
 use Rattle.std.proofs.lemmas.List.Sums.{get_or-le-sum_by}
 use Rattle.std.proofs.lemmas.List.Elements.{All-get_or}
 use Rattle.envy_base.specs.declared.board.Trouble.{Trouble}
-use Rattle.envy_base.specs.Words.{Sheet, Works}
-use Rattle.envy_base.proofs.Working.{Works-trans, Works-more}
+use Rattle.envy_array.specs.Words.{Sheet, Works}
+use Rattle.envy_array.proofs.Working.{Works-trans, Works-more}
 use Rattle.envy_heap.specs.Pieces.{IsHeap, handed, spare, one}
 use Rattle.envy_btree.specs.declared.node.Node.{Node}
 use Rattle.envy_btree.specs.Pairs.{assoc, without}

@@ -2,8 +2,8 @@
 use Rattle.std.proofs.Common.{◌≡◌, ◌⊎◌, ℕ, suc, ◌+◌, ◌-◌, ◌*◌, ◌/◌, ◌%◌, ◌^◌, ◌<◌, ◌≤◌, Bool, false, IsTrue, length, Result, Ok, Err, IfOk, IsErrAnd, MatchResult, sym, subst, inr, arith, Fits, w32}
 use Rattle.envy_base.specs.declared.board.Trouble.{Trouble}
 use Rattle.envy_base.specs.declared.board.Trouble.TheVariants.{Off, Bad}
-use Rattle.envy_base.specs.Words.{Sheet, Works, OnPage, Fails, Puts, has}
-use Rattle.envy_base.proofs.Working.{Works-trans, Works-more, OnPage-trans}
+use Rattle.envy_array.specs.Words.{Sheet, Works, OnPage, Fails, Puts, has}
+use Rattle.envy_array.proofs.Working.{Works-trans, Works-more, OnPage-trans}
 use Rattle.envy_heap.specs.Pieces.{head, at}
 use Rattle.envy_btree.proofs.Keeping.{rose-high}
 

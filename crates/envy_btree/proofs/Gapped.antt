@@ -1,7 +1,7 @@
 -- Work on the pages of a node whose lists open or close.
 use Rattle.std.proofs.Common.{◌≡◌, ℕ, ◌+◌, ◌/◌, ◌%◌, ◌≤◌, IsTrue, sym, subst, arith}
-use Rattle.envy_base.specs.Words.{Sheet, Works, OnPage, Spends, has}
-use Rattle.envy_base.proofs.Working.{Works-trans, Spends-trans, Spends-more, was_on}
+use Rattle.envy_array.specs.Words.{Sheet, Works, OnPage, Spends, has}
+use Rattle.envy_array.proofs.Working.{Works-trans, Spends-trans, Spends-more, was_on}
 
 pub page-at : (a i n : ℕ) → i ≤ n → a % 32 + (n + 1) ≤ 32 → (a + i) / 32 ≡ a / 32
 page-at a i n le page = omega arith

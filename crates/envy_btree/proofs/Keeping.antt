@@ -3,7 +3,8 @@ use Rattle.std.proofs.Common.{◌≡◌, ◌⊎◌, ℕ, ◌+◌, ◌-◌, ◌^�
 use Rattle.std.proofs.lemmas.Bool.{cases_lt}
 use Rattle.envy_base.specs.declared.board.Trouble.{Trouble}
 use Rattle.envy_base.specs.declared.board.Trouble.TheVariants.{Off, Bad}
-use Rattle.envy_base.specs.Words.{Sheet, Works, Keeps, Fails, Rose}
+use Rattle.envy_array.specs.Words.{Sheet, Works, Keeps, Fails}
+use Rattle.envy_base.specs.Counting.{Rose}
 use Rattle.envy_btree.specs.Answers.{Tried}
 
 on_or_off : (b : Bool) → IsTrue b ⊎ (b ≡ false)
@@ -26,7 +27,7 @@ beside-on a b c v w calm = let s = v calm in let t = w (s.0 ∙ calm ∙ sym s.1
 
 -- work keeps what calls keep
 pub keeps-works : (k : ℕ) (a b : Sheet) → Works k a b → Keeps a b
-keeps-works k a b w = record { long = w.long; room = w.room; fixed = w.fixed; cuts = w.cuts; bads = w.bads; dark = w.dark; cut = w.cut; beside = λ calm. (stays-beside k a b w calm, w.kept_beside) }
+keeps-works k a b w = record { long = w.long; room = w.room; fixed = w.fixed; notes = w.notes; cuts = w.cuts; bads = w.bads; dark = w.dark; cut = w.cut; beside = λ calm. (stays-beside k a b w calm, w.kept_beside) }
 
 -- and so does a call after it
 pub works-keep : (k : ℕ) (a b c : Sheet) → Works k a b → Keeps b c → Keeps a c
@@ -34,6 +35,7 @@ works-keep k a b c v w = record {
   long = w.long ∙ v.long;
   room = w.room ∙ v.room;
   fixed = w.fixed ∙ v.fixed;
+  notes = w.notes ∙ v.notes;
   cuts = omega (arith, v.cuts, w.cuts);
   bads = omega (arith, v.bads, w.bads);
   dark = λ e. w.dark (v.dark e);
@@ -49,6 +51,7 @@ keeps-through k a b c d u v w =
       long = z.long ∙ u.long;
       room = z.room ∙ u.room;
       fixed = z.fixed ∙ u.fixed;
+      notes = z.notes ∙ u.notes;
       cuts = omega (arith, u.cuts, z.cuts);
       bads = omega (arith, u.bads, z.bads);
       dark = λ e. z.dark (u.dark e);

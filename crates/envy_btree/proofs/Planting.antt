@@ -3,7 +3,7 @@ use Rattle.std.proofs.Common.{◌≡◌, ◌≢◌, ℕ, zero, suc, ◌+◌, ◌
 use Rattle.std.proofs.lemmas.List.{set-set, set-get_or, get_or-set_same, get_or-set_other, length-set, append-nil}
 use Rattle.std.proofs.lemmas.List.Elements.{All-cons, All-nil}
 use Rattle.envy_base.specs.declared.board.Trouble.{Trouble}
-use Rattle.envy_base.specs.Words.{Sheet, Puts}
+use Rattle.envy_array.specs.Words.{Sheet, Puts}
 use Rattle.envy_heap.specs.Pieces.{IsHeap, Takes, Chain, handed, spare, head, at, one, times}
 use Rattle.envy_heap.proofs.Heaps.{Chain-same, one-same}
 use Rattle.envy_btree.specs.Pairs.{with_pair}

@@ -1,7 +1,7 @@
 -- The calls leave words that they may be made of again.
 use Rattle.std.proofs.Common.{◌≡◌, ℕ, ◌^◌, ◌≤◌, false, [], length, replicate, refl, arith, Result, Ok, Err, IfOk, sym, subst, inl}
 use Rattle.std.proofs.lemmas.List.{length-replicate}
-use Rattle.envy_base.specs.Words.{Sheet}
+use Rattle.envy_array.specs.Words.{Sheet}
 use Rattle.envy_btree.specs.Index.{IsIndex}
 use Rattle.envy_btree.specs.Testing.{IsReady}
 use Rattle.envy_heap.proofs.Heaps.{IsHeap-zeros, handed-zeros, zero-at}

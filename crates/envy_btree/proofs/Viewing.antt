@@ -1,8 +1,8 @@
 -- What looks leave, and how their failures are handed on.
 use Rattle.std.proofs.Common.{◌≡◌, ℕ, Bool, true, false, IsTrue, List, Result, Ok, Err, IsErrAnd, refl, sym, subst, ◌∙◌}
 use Rattle.envy_base.specs.declared.board.Off.{Off}
-use Rattle.envy_base.specs.Words.{Sheet, IsSheet, Works, Spends, Loads}
-use Rattle.envy_base.proofs.Working.{Works-refl, Works-trans, Spends-refl, Spends-trans, was_on}
+use Rattle.envy_array.specs.Words.{Sheet, IsSheet, Works, Spends, Loads}
+use Rattle.envy_array.proofs.Working.{Works-refl, Works-trans, Spends-refl, Spends-trans, was_on}
 use Rattle.envy_btree.specs.declared.fault.LookFault.{LookFault}
 use Rattle.envy_btree.specs.declared.fault.LookFault.TheVariants.{Off as LookOff, Broken}
 use Rattle.envy_btree.specs.Answers.{Answers}

@@ -1,11 +1,12 @@
 -- Changes within an open transaction, of what the functions have at hand.
 use Rattle.std.proofs.Common.{◌≡◌, ℕ, ◌+◌, ◌-◌, ◌*◌, ◌/◌, ◌^◌, ◌<◌, ◌≤◌, List, length, get_or, Option, None, Some, MatchOption, IsTrue, refl, ap, sym, subst, ◌∙◌, inl, inr, arith}
-use Rattle.envy_base.specs.Words.{Sheet, Rose, Works}
+use Rattle.envy_array.specs.Words.{Sheet, Works}
+use Rattle.envy_base.specs.Counting.{Rose}
 use Rattle.envy_btree.specs.Answers.{IsFull}
 use Rattle.envy_btree.specs.Pairs.{assoc, with_pair, without}
 use Rattle.envy_btree.specs.Index.{IsPlanted, IsIndex, Rooted, most_pairs}
 use Rattle.envy_btree.specs.Depths.{IsDeep}
-use Rattle.envy_base.proofs.Working.{Works-trans, Works-more}
+use Rattle.envy_array.proofs.Working.{Works-trans, Works-more}
 use Rattle.envy_btree.proofs.Calls.{count-of, is-full, has-room, count-fits}
 use Rattle.envy_btree.proofs.Felling.{without-missing, without-present}
 use Rattle.envy_btree.proofs.Keeping.{rose-high}

@@ -2,7 +2,8 @@
 use Rattle.std.specs.Prelude.{◌≡◌, ◌⊎◌, ℕ, ◌+◌, false, IsTrue, List, ◌++◌, length, take, drop, Option, None, Result, Ok, Err}
 use Rattle.envy_base.specs.declared.board.Trouble.{Trouble}
 use Rattle.envy_base.specs.declared.board.Trouble.TheVariants.{Off as TroubleOff, Bad as TroubleBad}
-use Rattle.envy_base.specs.Words.{Sheet, Rose}
+use Rattle.envy_array.specs.Words.{Sheet}
+use Rattle.envy_base.specs.Counting.{Rose}
 use Rattle.envy_btree.specs.declared.fault.LookFault.{LookFault}
 use Rattle.envy_btree.specs.declared.fault.LookFault.TheVariants.{Off as LookOff, Broken}
 use Rattle.envy_btree.specs.declared.fault.TreeFault.{TreeFault}

@@ -1,6 +1,6 @@
 -- What is seen of the words, and of a map that they stand for.
 use Rattle.std.specs.Prelude.{◌≡◌, ℕ, zero, suc, ◌+◌, ◌-◌, ◌^◌, ◌<◌, ◌≤◌, Bool, false, IsTrue, List, [], ◌∷◌, ◌++◌, length, take, slice_index, Option, None, Some, Result, Ok, Err}
-use Rattle.envy_base.specs.Words.{Sheet, Works, Spends}
+use Rattle.envy_array.specs.Words.{Sheet, Works, Spends}
 use Rattle.envy_heap.specs.Pieces.{IsHeap, at}
 use Rattle.envy_btree.specs.declared.fault.LookFault.{LookFault}
 use Rattle.envy_btree.specs.declared.fault.LookFault.TheVariants.{Off as LookOff, Broken}

@@ -1,6 +1,6 @@
 -- What the tests keep of the words between their calls.
 use Rattle.std.specs.Prelude.{◌≡◌, ℕ, ◌^◌, ◌≤◌, false, List, length}
-use Rattle.envy_base.specs.Words.{Sheet}
+use Rattle.envy_array.specs.Words.{Sheet}
 use Rattle.envy_btree.specs.Index.{IsIndex}
 
 -- the index's calls may be made

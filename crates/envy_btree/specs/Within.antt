@@ -1,6 +1,7 @@
 -- What a change within an open transaction answers, and what it leaves.
 use Rattle.std.specs.Prelude.{◌≡◌, ℕ, ◌<◌, false, IsTrue, List, Option, Result, Ok, Err}
-use Rattle.envy_base.specs.Words.{Sheet, Rose, Works}
+use Rattle.envy_array.specs.Words.{Sheet, Works}
+use Rattle.envy_base.specs.Counting.{Rose}
 use Rattle.envy_btree.specs.declared.fault.ChangeFault.{ChangeFault}
 use Rattle.envy_btree.specs.declared.fault.ChangeFault.TheVariants.{Off, Full, Room, Bad}
 use Rattle.envy_btree.specs.Answers.{IsFull}

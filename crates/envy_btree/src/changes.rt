@@ -1,5 +1,5 @@
 ghost use Rattle.std.specs.Prelude.{◌≡◌, ℕ, List, ◌+◌, ◌^◌, ◌≤◌, length, IsTrue, None, Ok};
-ghost use Rattle.envy_base.specs.Words.{Spends, Works};
+ghost use Rattle.envy_array.specs.Words.{Spends, Works};
 ghost use Rattle.envy_btree.specs.Depths.{IsDeep, dropping_puts, insertion_pages, insertion_puts, removal_pages};
 ghost use Rattle.envy_btree.specs.Index.{IsIndex};
 ghost use Rattle.envy_btree.specs.Within.{InsertsWithin, RemovesWithin};
@@ -8,7 +8,8 @@ use crate::fault::ChangeFault;
 use crate::insertion::{count_with, insert_inside, most_pairs};
 use crate::removal::remove_inside;
 use crate::search::look_up;
-use envy_base::{Trouble, Words};
+use envy_array::Words;
+use envy_base::Trouble;
 
 /// Sets the value of a key within the open transaction, and answers the old one. The transaction may put words in
 /// `left` pages more; where the tree is so deep that this may be too few, the change is refused as `Room`. A new key

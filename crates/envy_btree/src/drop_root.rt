@@ -1,5 +1,5 @@
 ghost use Rattle.std.specs.Prelude.{◌≡◌, ℕ, List, ◌+◌, ◌*◌, ◌^◌, ◌<◌, ◌≤◌, length, slice_index, slice_set, true, OnOk, IsTrue};
-ghost use Rattle.envy_base.specs.Words.{Spends, Works, Fails};
+ghost use Rattle.envy_array.specs.Words.{Spends, Works, Fails};
 ghost use Rattle.envy_heap.specs.Pieces.{IsHeap, Freed, handed};
 ghost use Rattle.envy_btree.specs.Pairs.{without};
 ghost use Rattle.envy_btree.specs.Depths.{IsShallow};
@@ -8,7 +8,8 @@ ghost use Rattle.envy_btree.specs.Shrinking.{next_root};
 
 use crate::node::{Node, write_node};
 use crate::removal_path::remove_under;
-use envy_base::{Trouble, Words};
+use envy_array::Words;
+use envy_base::Trouble;
 use envy_heap::give;
 
 // Gives back the piece of a root with no key. Its one child is the root then, or there is none.

@@ -1,9 +1,10 @@
 ghost use Rattle.std.specs.Prelude.{◌≡◌, false};
-ghost use Rattle.envy_base.specs.Words.{Spends, Keeps};
+ghost use Rattle.envy_array.specs.Words.{Spends, Keeps};
 ghost use Rattle.envy_btree.specs.Answers.{Tried, Ends};
 
 use crate::fault::TreeFault;
-use envy_base::{Off, Trouble, Words};
+use envy_array::Words;
+use envy_base::{Off, Trouble};
 
 /// Ends the transaction in which a change was tried: keeps it where it is done, and undoes it else.
 pub(crate) fn close<W: Words>(words: &mut W, done: Result<(), Trouble>) -> Result<(), TreeFault>

@@ -1,13 +1,14 @@
 ghost use Rattle.std.specs.Prelude.{◌≡◌, ◌+◌, ◌*◌, ◌<◌, ◌≤◌, ◌/◌, ◌%◌, length, slice_index, OnOk, IsTrue};
 ghost use Rattle.std.specs.List.{insert, remove};
-ghost use Rattle.envy_base.specs.Words.{Spends, Works, Fails, has};
+ghost use Rattle.envy_array.specs.Words.{Spends, Works, Fails, has};
 ghost use Rattle.envy_heap.specs.Pieces.{head, at, one};
 ghost use Rattle.envy_btree.specs.Tree.{Shows};
 ghost use Rattle.envy_btree.specs.Nodes.{OnlyPiece};
 ghost use Rattle.envy_btree.specs.Spots.{Opens, Closes, keys_at, slots_at};
 
 use crate::node::{kind_of, read_list, write_list};
-use envy_base::{PAGE_WORDS, Trouble, Words};
+use envy_array::Words;
+use envy_base::{PAGE_WORDS, Trouble};
 
 /// Puts a word at place `i` of the `n` words from `a` on, within one page. Those from there on move up by one.
 pub(crate) fn open_gap<W: Words>(

@@ -1,11 +1,12 @@
 ghost use Rattle.std.specs.Prelude.{◌≡◌, ◌≢◌, ℕ, List, ◌+◌, ◌-◌, ◌<◌, ◌≤◌, length, IsTrue, IfOk};
-ghost use Rattle.envy_base.specs.Words.{Spends, Works, Fails, has};
+ghost use Rattle.envy_array.specs.Words.{Spends, Works, Fails, has};
 ghost use Rattle.envy_heap.specs.Pieces.{IsHeap, handed, spare, at, one};
 ghost use Rattle.envy_btree.specs.Nodes.{Halves};
 ghost use Rattle.envy_btree.specs.Changes.{Saved};
 
 use crate::node::{Node, kind_of, write_node};
-use envy_base::{Trouble, Words};
+use envy_array::Words;
+use envy_base::Trouble;
 use envy_heap::take;
 
 /// Writes a node back. One with too many keys becomes two, and the answer is the key between them and

@@ -1,5 +1,5 @@
 ghost use Rattle.std.specs.Prelude.{◌≡◌, ◌≢◌, ℕ, List, ◌+◌, ◌-◌, ◌*◌, ◌/◌, ◌^◌, ◌<◌, ◌≤◌, length, slice_index, false, OnOk, MatchOption, IsTrue};
-ghost use Rattle.envy_base.specs.Words.{Spends, Works, Keeps, Fails};
+ghost use Rattle.envy_array.specs.Words.{Spends, Works, Keeps, Fails};
 ghost use Rattle.envy_btree.specs.Pairs.{with_pair};
 ghost use Rattle.envy_btree.specs.Index.{IsPlanted, IsIndex, most_pairs};
 ghost use Rattle.envy_btree.specs.Depths.{IsShallow, insertion_pages, most_levels};
@@ -10,7 +10,8 @@ use crate::fault::TreeFault;
 use crate::new_root::insert_at_root;
 use crate::search::look_up;
 use crate::sizes::most_levels;
-use envy_base::{Trouble, Words};
+use envy_array::Words;
+use envy_base::Trouble;
 
 /// Sets the value of a key, and answers the old one. A new key is refused as `Full` where the map has
 /// `14 * (q - 8)` pairs, with `q` pieces in all. It is one transaction. In up to `2^25`

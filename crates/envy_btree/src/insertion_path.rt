@@ -1,5 +1,5 @@
 ghost use Rattle.std.specs.Prelude.{◌≡◌, ◌+◌, ◌*◌, ◌<◌, ◌≤◌, length, slice_index, IfOk, IsTrue};
-ghost use Rattle.envy_base.specs.Words.{Spends, Works, Fails, has};
+ghost use Rattle.envy_array.specs.Words.{Spends, Works, Fails, has};
 ghost use Rattle.envy_heap.specs.Pieces.{head, at};
 ghost use Rattle.envy_btree.specs.Nodes.{Ranks};
 ghost use Rattle.envy_btree.specs.Changes.{Ready, Way, Grows, SetsPair, GetsChild};
@@ -9,7 +9,8 @@ use crate::gap::widen;
 use crate::halves::save;
 use crate::node::{read_node, set_pair};
 use crate::spot::{ends_at, seek};
-use envy_base::{Trouble, Words};
+use envy_array::Words;
+use envy_base::Trouble;
 
 // Sets the value of a key in a full leaf, which may part in two.
 fn grow_full_leaf<W: Words>(

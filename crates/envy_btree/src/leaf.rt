@@ -7,7 +7,7 @@ ghost use Rattle.envy_btree.specs.Looking.{IsLeaf, IsUnder, Looks, Powers, Sees}
 use crate::fault::LookFault;
 use crate::place::{Place, place_of};
 use crate::sizes::{HEAD_LIMIT, KEYS, LEAST_WORDS, LEVELS, PIECE_WORDS, SLOTS};
-use envy_base::Words;
+use envy_array::Words;
 
 /// A node, and the numbers from `low` to `top`: other nodes of its level have no keys of these under them.
 #[derive(Clone, Copy)]

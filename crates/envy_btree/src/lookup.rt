@@ -1,5 +1,5 @@
 ghost use Rattle.std.specs.Prelude.{◌≡◌, ◌≤◌, ◌<◌, ◌+◌, ◌^◌, ℕ, List, false, length, IsTrue, MatchResult, IfOk};
-ghost use Rattle.envy_base.specs.Words.{Spends, Works};
+ghost use Rattle.envy_array.specs.Words.{Spends, Works};
 ghost use Rattle.envy_heap.specs.Pieces.{at};
 ghost use Rattle.envy_btree.specs.Answers.{Gets};
 ghost use Rattle.envy_btree.specs.Index.{IsIndex};
@@ -10,7 +10,8 @@ use crate::fault::LookFault;
 use crate::leaf::{Leaf, leaf_for};
 use crate::place::place_of;
 use crate::sizes::{KEYS, PIECE_WORDS, SLOTS};
-use envy_base::{Off, Words};
+use envy_array::Words;
+use envy_base::Off;
 
 /// The value of a key in the map, as the words stand: if a transaction is open, with what it put. On each level at
 /// most seven words of one node are read. `Broken` comes only if the words stand for no map.

@@ -1,5 +1,5 @@
 ghost use Rattle.std.specs.Prelude.{◌≡◌, ℕ, List, ◌+◌, ◌*◌, ◌^◌, ◌<◌, ◌≤◌, [], ◌∷◌, length, slice_index, OnOk, IsTrue};
-ghost use Rattle.envy_base.specs.Words.{Spends, Works, Fails, has};
+ghost use Rattle.envy_array.specs.Words.{Spends, Works, Fails, has};
 ghost use Rattle.envy_heap.specs.Pieces.{IsHeap, spare, one};
 ghost use Rattle.envy_btree.specs.Pairs.{with_pair};
 ghost use Rattle.envy_btree.specs.Index.{IsPlanted, most_pairs};
@@ -8,7 +8,8 @@ ghost use Rattle.envy_btree.specs.Depths.{IsShallow};
 
 use crate::insertion_path::insert_under;
 use crate::node::write_node;
-use envy_base::{Trouble, Words};
+use envy_array::Words;
+use envy_base::Trouble;
 use envy_heap::take;
 
 /// Makes a node of these keys and slots the root.

@@ -1,12 +1,13 @@
 ghost use Rattle.std.specs.Prelude.{◌≡◌, ℕ, List, ◌<◌, ◌≤◌, ◌+◌, ◌↔◌, length, IfOk, OnOk, MatchResult, IsTrue, ◌%◌, ◌/◌, false, slice_index, slice_set};
 ghost use Rattle.arrayvec.specs.ArrayVec.{array_vec_len};
-ghost use Rattle.envy_base.specs.Words.{Spends, Works, OnPage, Fails};
+ghost use Rattle.envy_array.specs.Words.{Spends, Works, OnPage, Fails};
 ghost use Rattle.envy_heap.specs.Pieces.{head, at, one};
 ghost use Rattle.envy_btree.specs.Tree.{window, Shows, Rising, keys_of, values_of};
 ghost use Rattle.envy_btree.specs.Nodes.{IsRead, pasted, OnlyPiece, Ranks, IsSet, IsDropped};
 
 use arrayvec::ArrayVec;
-use envy_base::{Off, PAGE_WORDS, Trouble, Words};
+use envy_array::Words;
+use envy_base::{Off, PAGE_WORDS, Trouble};
 
 /// A node of the tree: its keys, and its values or children.
 #[derive(Drop)]

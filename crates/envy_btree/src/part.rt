@@ -20,7 +20,8 @@ use crate::leaf::Leaf;
 use crate::place::place_of;
 use crate::sizes::{KEYS, PIECE_WORDS};
 use crate::way::Way;
-use envy_base::{Off, Words};
+use envy_array::Words;
+use envy_base::Off;
 
 /// The pairs of a leaf that lie on a way from a key on: `count` from `place` on, or before it, and the key at which
 /// the way goes on in another leaf, if it does.

@@ -1,7 +1,8 @@
 ghost use Rattle.std.specs.Prelude.{◌≡◌, ◌+◌, ◌≤◌, false, length, IfOk, IsTrue, MatchResult};
 ghost use Rattle.envy_btree.specs.Looking.{IsPlace, Looks};
 
-use envy_base::{Off, Words};
+use envy_array::Words;
+use envy_base::Off;
 
 /// The place of a key among others that rise: how many are at most it, the last of these, and the greatest number
 /// below the next.

@@ -1,12 +1,13 @@
 ghost use Rattle.std.specs.Prelude.{◌≡◌, ◌≢◌, ℕ, List, Bool, ◌+◌, ◌*◌, ◌<◌, ◌≤◌, ◌++◌, length, slice_index, OnOk, IsTrue, true, false};
-ghost use Rattle.envy_base.specs.Words.{Spends, Works, Fails};
+ghost use Rattle.envy_array.specs.Words.{Spends, Works, Fails};
 ghost use Rattle.envy_heap.specs.Pieces.{IsHeap, handed, at, one};
 ghost use Rattle.envy_btree.specs.Tree.{Shows};
 ghost use Rattle.envy_btree.specs.Changes.{joined_keys, Beside, HasPair, IsShort, Mended};
 
 use crate::halves::write_halves;
 use crate::node::{Node, read_node, write_node};
-use envy_base::{Trouble, Words};
+use envy_array::Words;
+use envy_base::Trouble;
 use envy_heap::give;
 
 // Appends a node to one before it. An inner node has the key between them too.

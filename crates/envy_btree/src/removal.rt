@@ -1,5 +1,5 @@
 ghost use Rattle.std.specs.Prelude.{◌≡◌, ℕ, List, ◌+◌, ◌*◌, ◌^◌, ◌<◌, ◌≤◌, length, slice_index, false, OnOk, IsTrue};
-ghost use Rattle.envy_base.specs.Words.{Spends, Works, Keeps, Fails};
+ghost use Rattle.envy_array.specs.Words.{Spends, Works, Keeps, Fails};
 ghost use Rattle.envy_btree.specs.Pairs.{without};
 ghost use Rattle.envy_btree.specs.Index.{IsPlanted, IsIndex, most_pairs};
 ghost use Rattle.envy_btree.specs.Depths.{IsShallow, most_levels, removal_pages};
@@ -10,7 +10,8 @@ use crate::ends::close;
 use crate::fault::TreeFault;
 use crate::search::look_up;
 use crate::sizes::most_levels;
-use envy_base::{Trouble, Words};
+use envy_array::Words;
+use envy_base::Trouble;
 
 /// Takes a key out of the map, and answers its value. It is one transaction. In up to `2^25`
 /// words it makes at most 1,089 puts, in at most 24 pages, and else 1,281 in 28; it needs no more room. If

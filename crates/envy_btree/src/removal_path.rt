@@ -1,5 +1,5 @@
 ghost use Rattle.std.specs.Prelude.{◌≡◌, ℕ, List, ◌+◌, ◌-◌, ◌*◌, ◌<◌, ◌≤◌, ◌++◌, length, slice_index, IfOk, IfSome, OnOk, None, IsTrue, true, false};
-ghost use Rattle.envy_base.specs.Words.{Spends, Works, Fails};
+ghost use Rattle.envy_array.specs.Words.{Spends, Works, Fails};
 ghost use Rattle.envy_heap.specs.Pieces.{IsHeap, head, at, one};
 ghost use Rattle.envy_btree.specs.Nodes.{Ranks};
 ghost use Rattle.envy_btree.specs.Changes.{Rests, Beside, HasPair, IsShort, joined_keys};
@@ -10,7 +10,8 @@ use crate::gap::narrow;
 use crate::node::{Node, drop_pair, read_node, write_node};
 use crate::rebalance::{mend_with_front, mend_with_rear};
 use crate::spot::{ends_at, seek};
-use envy_base::{Trouble, Words};
+use envy_array::Words;
+use envy_base::Trouble;
 
 // Writes a node back, or leaves it in hand where it is short.
 fn put_back<W: Words>(words: &mut W, piece: u32, node: Node) -> Result<Option<Node>, Trouble>

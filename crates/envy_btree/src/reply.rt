@@ -3,7 +3,7 @@ ghost use Rattle.arrayvec.specs.ArrayVec.{array_vec_len};
 ghost use Rattle.envy_btree.specs.Replies.{index_bytes};
 
 use arrayvec::ArrayVec;
-use envy_report::{push_number, push_text};
+use envy_trace::{push_number, push_text};
 
 /// The reply to a line of a trace of the index.
 #[derive(Clone, Copy, Debug, PartialEq, Eq)]

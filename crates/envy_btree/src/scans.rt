@@ -1,5 +1,5 @@
 ghost use Rattle.std.specs.Prelude.{◌≡◌, ◌≤◌, ◌+◌, ◌^◌, ℕ, List, length, IsTrue, IfOk, drop, IfSome, Some, false};
-ghost use Rattle.envy_base.specs.Words.{Spends, Works};
+ghost use Rattle.envy_array.specs.Words.{Spends, Works};
 ghost use Rattle.envy_btree.specs.Answers.{Answers, Counts, Finds, IsWritten};
 ghost use Rattle.envy_btree.specs.Index.{IsIndex};
 ghost use Rattle.envy_btree.specs.Looking.{Looks, Powers, Sees, pairs_by};
@@ -9,7 +9,7 @@ use crate::fault::LookFault;
 use crate::sizes::LEAST_WORDS;
 use crate::turn::{Turn, take_turn};
 use crate::way::Way;
-use envy_base::Words;
+use envy_array::Words;
 
 /// Writes the pairs of the map from a key on, by rising key, into `out`: as many as it has room for, or all, and
 /// answers how many. The rest of `out` stays; after an error nothing is said of it. A leaf is searched for once.

@@ -1,5 +1,5 @@
 ghost use Rattle.std.specs.Prelude.{◌≡◌, ◌+◌, ◌<◌, ◌≤◌, ◌^◌, ℕ, List, length, slice_index, IfOk, OnOk, MatchResult, IsTrue, false};
-ghost use Rattle.envy_base.specs.Words.{Spends, Works};
+ghost use Rattle.envy_array.specs.Words.{Spends, Works};
 ghost use Rattle.envy_heap.specs.Pieces.{head, at};
 ghost use Rattle.envy_btree.specs.Pairs.{assoc};
 ghost use Rattle.envy_btree.specs.Tree.{pairs_of};
@@ -9,7 +9,8 @@ ghost use Rattle.envy_btree.specs.Depths.{IsDeep, most_levels};
 ghost use Rattle.envy_btree.specs.Spots.{ValueAt, keys_at, slots_at};
 
 use crate::spot::{ends_at, seek};
-use envy_base::{Off, Words};
+use envy_array::Words;
+use envy_base::Off;
 
 /// What a change knows before it puts a word: the value of its key, and how many levels of inner nodes there are.
 #[derive(Clone, Copy)]

@@ -1,11 +1,12 @@
 ghost use Rattle.std.specs.Prelude.{◌≡◌, ◌+◌, ◌-◌, ◌<◌, ◌≤◌, ◌/◌, length, slice_index, IfOk, OnOk, MatchResult, IsTrue, false};
-ghost use Rattle.envy_base.specs.Words.{Spends, Works};
+ghost use Rattle.envy_array.specs.Words.{Spends, Works};
 ghost use Rattle.envy_heap.specs.Pieces.{head, at};
 ghost use Rattle.envy_btree.specs.Tree.{window};
 ghost use Rattle.envy_btree.specs.Nodes.{Ranks};
 ghost use Rattle.envy_btree.specs.Spots.{Climbs, IsSpot, EndsAt, keys_at};
 
-use envy_base::{Off, Words};
+use envy_array::Words;
+use envy_base::Off;
 
 /// Where a key belongs in a node: of how many keys, which are at most the key up to this place.
 #[derive(Clone, Copy)]

@@ -19,7 +19,8 @@ use crate::leaf::leaf_for;
 use crate::part::{Part, part_of};
 use crate::sizes::{KEYS, PIECE_WORDS, SLOTS};
 use crate::way::Way;
-use envy_base::{Off, Words};
+use envy_array::Words;
+use envy_base::Off;
 
 /// Where a scan stands: how many pairs are written, and the key at which it goes on, if it does.
 #[derive(Clone, Copy)]

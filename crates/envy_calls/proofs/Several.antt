@@ -1,8 +1,8 @@
 -- Several puts or stores, one after another, and what they make of the array.
 use Rattle.std.proofs.Common.{refl, sym, subst, ℕ, zero, suc, ◌+◌, Bool, true, false, List, get_or, Ok}
-use Rattle.envy_base.specs.Array.{Array}
-use Rattle.envy_base.specs.Step.{Put, Store, Done as DoneOf}
-use Rattle.envy_layout.specs.Stands.{Stands, Steps}
+use Rattle.envy_array.specs.Array.{Array}
+use Rattle.envy_array.specs.Step.{Put, Store, Done as DoneOf}
+use Rattle.envy_meaning.specs.Stands.{Stands, Steps}
 use Rattle.envy_memory.specs.Picture.{Picture}
 use Rattle.envy_memory.specs.PutRuns.{PutsBy, PutsRun}
 use Rattle.envy_memory.specs.Runs.{is_more}

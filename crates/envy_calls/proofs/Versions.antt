@@ -6,7 +6,7 @@ use Rattle.envy_base.specs.declared.shape.Shape.{Shape}
 use Rattle.envy_base.specs.Shape.{version_of}
 use Rattle.envy_base.proofs.Versions.{version-known, plain-version}
 use Rattle.envy_map.specs.Fields.{Fields, Chart, IsFormatted, IsVersion, narrowed, shape_in, shape_of}
-use Rattle.envy_layout.specs.Sound.{IsSound}
+use Rattle.envy_soundness.specs.Sound.{IsSound}
 use Rattle.envy_policy.specs.declared.setup.Setup.{Setup as OfSetup}
 use Rattle.envy_calls.specs.Making.{IsAlike, IsWhole}
 

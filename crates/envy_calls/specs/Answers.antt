@@ -1,13 +1,13 @@
 -- What a call answers by a number, and what it leaves in the place for a memory: all that the memory's call says of
 -- the answer that the number stands for. Where the place holds no memory that is the answer, and nothing changes.
 use Rattle.std.specs.Prelude.{◌≡◌, ◌≢◌, ◌↔◌, ℕ, false, IsErrOf, OnOk, slice_index, nat_lt, if◌then◌else◌, Option, None, Some, Result, Ok, Err}
-use Rattle.envy_base.specs.Array.{Array}
+use Rattle.envy_array.specs.Array.{Array}
 use Rattle.envy_base.specs.declared.board.Trouble.{Trouble}
 use Rattle.envy_base.specs.declared.board.Trouble.TheVariants.{Off as TroubleOff, Bad as TroubleBad}
-use Rattle.envy_base.specs.declared.counts.Counts.{Counts as CountsOf}
-use Rattle.envy_layout.specs.Stands.{Stands}
-use Rattle.envy_layout.specs.Words.{durable}
-use Rattle.envy_flush.specs.declared.did.Did.{Did}
+use Rattle.envy_array.specs.declared.counts.Counts.{Counts as CountsOf}
+use Rattle.envy_meaning.specs.Stands.{Stands}
+use Rattle.envy_soundness.specs.Words.{durable}
+use Rattle.envy_engine.specs.declared.did.Did.{Did}
 use Rattle.envy_memory.specs.Below.{IsPast, IsOwned, IsBusy, IsShut, IsShutTo, IsKeptFrom, IsFull, LoadsBelow, StoresBelow, BeginsBelow, PutsBelow, CommitsBelow, AbortsBelow, TicksBelow}
 use Rattle.envy_memory.specs.Calls.{Loads, Looks, Stores, Begins, Puts, Commits, Aborts, Ticks, IsCut, HasFailed, Undisturbed}
 use Rattle.envy_memory.specs.Picture.{Picture, counts_of}
@@ -23,7 +23,7 @@ use Rattle.envy_memory.specs.declared.faults.EndFault.{EndFault}
 use Rattle.envy_memory.specs.declared.faults.EndFault.TheVariants.{Off as EndOff, Closed as EndClosed}
 use Rattle.envy_calls.specs.Codes.{number_of, load_code, store_code, begin_code, put_code, end_code, tick_code, loaded, store_holder, opened, put_holder, worked}
 use Rattle.envy_calls.specs.declared.code.Code.TheVariants.{Done, Empty}
-use Rattle.envy_calls.specs.declared.counting.EnvyCounts.{EnvyCounts}
+use Rattle.envy_calls.specs.declared.counters.EnvyCounts.{EnvyCounts}
 
 -- slots are numbered from 0 to 63, and no other number names one
 abbrev pub slot_named : ℕ → ℕ

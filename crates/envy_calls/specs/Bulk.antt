@@ -1,8 +1,8 @@
 -- What reading and putting several words answer by a number, and what they leave in the place for a memory.
 use Rattle.std.specs.Prelude.{◌≡◌, ◌≢◌, ◌↔◌, ◌+◌, ◌/◌, ℕ, zero, suc, false, OnOk, OnErr, length, slice_index, List, Option, None, Some, Result, Ok, Err}
-use Rattle.envy_base.specs.Array.{Array}
-use Rattle.envy_base.specs.Step.{Step, Put, Store, Done as DoneOf}
-use Rattle.envy_layout.specs.Stands.{Stands}
+use Rattle.envy_array.specs.Array.{Array}
+use Rattle.envy_array.specs.Step.{Step, Put, Store, Done as DoneOf}
+use Rattle.envy_meaning.specs.Stands.{Stands}
 use Rattle.envy_memory.specs.LoadRuns.{AreLive, Crosses, LoadsRun}
 use Rattle.envy_memory.specs.Picture.{Picture}
 use Rattle.envy_memory.specs.PutRuns.{EndsRun, PutsRun}

@@ -5,8 +5,8 @@ use Rattle.envy_base.specs.declared.board.Trouble.TheVariants.{Off as TroubleOff
 use Rattle.envy_audit.specs.declared.verdict.Rule.{Rule}
 use Rattle.envy_audit.specs.Judging.{number_of as rule_place}
 use Rattle.envy_policy.specs.Setup.{rule_of, shape_rule}
-use Rattle.envy_flush.specs.declared.did.Did.{Did}
-use Rattle.envy_flush.specs.declared.did.Did.TheVariants.{Idle, Flushed, Began, Moved, Copied, Switched, Placed, Erased}
+use Rattle.envy_engine.specs.declared.did.Did.{Did}
+use Rattle.envy_engine.specs.declared.did.Did.TheVariants.{Idle, Flushed, Began, Moved, Copied, Switched, Placed, Erased}
 use Rattle.envy_memory.specs.declared.faults.LoadFault.{LoadFault}
 use Rattle.envy_memory.specs.declared.faults.LoadFault.TheVariants.{Off as LoadOff, Range as LoadRange}
 use Rattle.envy_memory.specs.declared.faults.StoreFault.{StoreFault}

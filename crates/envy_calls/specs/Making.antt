@@ -4,8 +4,8 @@ use Rattle.envy_base.specs.State.{State}
 use Rattle.envy_map.specs.Codes.{the_magic}
 use Rattle.envy_base.specs.Shape.{version_of}
 use Rattle.envy_map.specs.Fields.{Chart, chart, IsFormatted, shape_of}
-use Rattle.envy_layout.specs.Same.{Kept}
-use Rattle.envy_layout.specs.Sound.{IsSound}
+use Rattle.envy_soundness.specs.Same.{Kept}
+use Rattle.envy_soundness.specs.Sound.{IsSound}
 use Rattle.envy_audit.specs.Judging.{BreaksFirst, IsFormattedAs}
 use Rattle.envy_policy.specs.Setup.{checked}
 use Rattle.envy_policy.specs.declared.setup.Setup.{Setup as OfSetup}

@@ -1,9 +1,9 @@
 -- What a transaction sees, by a number: its own puts, and else what is committed.
 use Rattle.std.specs.Prelude.{◌≡◌, ◌≢◌, ◌⊎◌, ◌↔◌, ◌*◌, ◌/◌, ◌<◌, ◌≤◌, ℕ, false, IsTrue, IfOk, OnOk, OnErr, length, slice_index, Option, None, Some, Result, Err}
-use Rattle.envy_base.specs.Array.{Array, owner, page_of, undone}
+use Rattle.envy_array.specs.Array.{Array, owner, page_of, undone}
 use Rattle.envy_map.specs.Fields.{undo}
-use Rattle.envy_layout.specs.Sound.{slot_named as slot_of_undo}
-use Rattle.envy_layout.specs.Stands.{Stands}
+use Rattle.envy_soundness.specs.Sound.{slot_named as slot_of_undo}
+use Rattle.envy_meaning.specs.Stands.{Stands}
 use Rattle.envy_memory.specs.Picture.{Picture}
 use Rattle.envy_memory.specs.declared.faults.LoadFault.{LoadFault}
 use Rattle.envy_memory.specs.declared.faults.LoadFault.TheVariants.{Off as LoadOff, Range as LoadRange}

@@ -3,8 +3,8 @@ ghost use Rattle.std.specs.Prelude.{◌≡◌};
 ghost use Rattle.envy_calls.specs.Bulk.{DoesRead, DoesStoreRun, DoesWrite, read_code};
 
 use crate::code::Code;
-use crate::ending::slot_named;
 use crate::faults::{put_answer, store_answer};
+use crate::transactions::slot_named;
 use envy_base::Board;
 use envy_memory::{LoadFault, Memory};
 

@@ -4,32 +4,32 @@
 //! Each call says all that the call of `Memory` says, and that its number stands for the answer.
 #![tactic(auto)]
 
+mod attachment;
+mod background;
 mod bulk;
 mod code;
-mod counting;
-mod ending;
+mod counters;
 mod faults;
 mod laws;
-mod loading;
-mod making;
+mod loads;
+mod map_head;
 mod reserves;
 mod setup;
-mod shaping;
-mod storing;
-mod ticking;
-mod viewing;
+mod slot_view;
+mod stores;
+mod transactions;
 
+pub use attachment::{attach, refusal};
+pub use background::tick;
 pub use bulk::{read, store_run, write};
 pub use code::Code;
-pub use counting::{EnvyCounts, counts};
-pub use ending::{abort, begin, commit};
+pub use counters::{EnvyCounts, counts};
 pub use faults::format_answer;
 pub use laws::no_two_answers_share_a_number;
-pub use loading::{load, look};
-pub use making::{attach, refusal};
+pub use loads::{load, look};
+pub use map_head::shape;
 pub use reserves::worn;
 pub use setup::{EnvySetup, checked_setup};
-pub use shaping::shape;
-pub use storing::{put, store};
-pub use ticking::tick;
-pub use viewing::view;
+pub use slot_view::view;
+pub use stores::{put, store};
+pub use transactions::{abort, begin, commit};

@@ -3,8 +3,8 @@ use Rattle.std.proofs.Common.{◌≡◌, ◌≢◌, ◌⊎◌, inl, inr, ◌+◌
 use Rattle.std.proofs.lemmas.Bool.{eqb-false}
 use Rattle.std.proofs.lemmas.Grind.{common_steps}
 use Rattle.std.proofs.lemmas.List.{length-set}
-use Rattle.envy_chip.specs.Commands.{ChipState, written, commanded, programmed, with_erased_block}
-use Rattle.envy_chip.specs.declared.chip.Mode.TheVariants.{Status, ProgramSetup, EraseSetup}
+use Rattle.envy_bank.specs.Commands.{ChipState, written, commanded, programmed, with_erased_block}
+use Rattle.envy_bank.specs.declared.chip.Mode.TheVariants.{Status, ProgramSetup, EraseSetup}
 use Rattle.envy_cfi.specs.Driving.{Writes, Ends, EndsAs, IsCalm, IsIdle, at_rest, Settles, ByteAs, Holds, RowAs, EraseAs, Leaves, OrdersByte, OrdersRow, Rests, ProgramsByte, ProgramsRow, Erases}
 use Rattle.envy_cfi.specs.declared.driver.DriverFault.{DriverFault}
 use Rattle.envy_cfi.specs.declared.driver.DriverFault.TheVariants.{Failed, Late}

@@ -1,8 +1,8 @@
 -- What a bus says of the chip behind it, and what the driver makes of that chip. Of a chip that isn't known nothing is
 -- said.
 use Rattle.std.specs.Prelude.{◌≡◌, ◌≢◌, ◌⊎◌, ⊤, ℕ, ◌+◌, ◌<◌, ◌≤◌, ◌/◌, true, false, List, Option, None, Some, Result, Ok, Err, length, slice_index, slice_set, bit_and}
-use Rattle.envy_chip.specs.Commands.{ChipState, written, read_of, with_erased_block}
-use Rattle.envy_chip.specs.declared.chip.Mode.TheVariants.{Array, Status}
+use Rattle.envy_bank.specs.Commands.{ChipState, written, read_of, with_erased_block}
+use Rattle.envy_bank.specs.declared.chip.Mode.TheVariants.{Array, Status}
 use Rattle.envy_cfi.specs.declared.driver.DriverFault.{DriverFault}
 use Rattle.envy_cfi.specs.declared.driver.DriverFault.TheVariants.{Failed, Late}
 

@@ -1,8 +1,8 @@
 ghost use Rattle.std.specs.Prelude.{◌≡◌, ◌<◌, ℕ, Option, None, Some, length};
-ghost use Rattle.envy_chip.specs.Commands.{ChipState, written, read_of};
+ghost use Rattle.envy_bank.specs.Commands.{ChipState, written, read_of};
 ghost use Rattle.envy_cfi.specs.Driving.{Writes, Reads};
 
-use envy_chip::Chip;
+use envy_bank::Chip;
 
 /// A bus to a part.
 pub trait Bus {

@@ -2,7 +2,7 @@ ghost use Rattle.std.specs.Prelude.{◌≡◌, ◌+◌, ◌<◌, ◌≤◌, leng
 ghost use Rattle.envy_cfi.specs.Driving.{Ends, Erases, OrdersByte, OrdersRow, ProgramsByte, ProgramsRow, Settles, Tells};
 
 use crate::Bus;
-use envy_chip::{CLEAR_STATUS, ERASE_CONFIRM, ERASE_SETUP, PROGRAM_SETUP, READ_ARRAY, READY};
+use envy_bank::{CLEAR_STATUS, ERASE_CONFIRM, ERASE_SETUP, PROGRAM_SETUP, READ_ARRAY, READY};
 
 /// How many bytes a row has.
 pub const ROW_BYTES: usize = 256;

@@ -3,10 +3,9 @@ use Rattle.std.proofs.Common.{◌≡◌, inl, inr, ℕ, ◌-◌, ◌^◌, ◌<�
 use Rattle.std.proofs.lemmas.Bool.{cases_lt}
 use Rattle.envy_base.specs.declared.board.Off.{Off}
 use Rattle.envy_base.specs.declared.board.Trouble.TheVariants.{Off as TroubleOff, Bad}
-use Rattle.envy_base.specs.Counting.{up}
+use Rattle.envy_base.specs.Counting.{Rose, up}
 use Rattle.envy_base.specs.State.{State}
-use Rattle.envy_base.specs.Words.{Rose}
-use Rattle.envy_counted.specs.AnyBoard.{AnyPuts, AnyPrograms, AnyErases}
+use Rattle.envy_counted.specs.LooseBoard.{AnyPuts, AnyPrograms, AnyErases}
 
 up-low : (told own then_own : ℕ) → told ≤ own → own < then_own → up told ≤ then_own
 unfolding up

@@ -1,2 +1,2 @@
-pub mod AnyBoard
-pub mod Counted
+pub mod LooseBoard
+pub mod StrictBoard

@@ -1,23 +1,26 @@
 -- What a sync does to a board.
-use Rattle.std.specs.Prelude.{◌≡◌, ◌⊎◌, ℕ, false, IsTrue, Result, Ok, Err}
-use Rattle.envy_base.specs.State.{State, cut}
+use Rattle.std.specs.Prelude.{◌≡◌, ◌⊎◌, false, IsTrue, Result, Ok, Err}
+use Rattle.envy_base.specs.State.{Notes, State, SyncNote, cut}
 use Rattle.envy_base.specs.declared.board.Off.{Off}
 use Rattle.envy_map.specs.Fields.{Chart, failed}
 
--- the board with other numbers that no call of a memory changes
-abbrev pub with_disk : State → ℕ → ℕ → ℕ → ℕ → State
-with_disk s plans given pulled lives = record s { plans = plans; given = given; pulled = pulled; lives = lives }
+-- the notes after one sync more
+abbrev pub noted : SyncNote → Notes → Notes
+noted sync notes = record { last = sync; before = notes.last }
 
--- The last two of the numbers become what the first two were, and nothing else changes but these two; or it fails, and
--- power is off.
+-- the board with other notes
+abbrev pub with_notes : State → Notes → State
+with_notes s notes = record s { notes = notes }
+
+-- The owner notes one sync more, and nothing else changes; or it fails, and power is off.
 abbrev pub Syncs : {T : Type 0} → State → Result T Off → State → Type 0
-Syncs old (Ok done) new = IsTrue old.on × (plans given : ℕ) × (new ≡ with_disk old plans given old.plans old.given)
+Syncs old (Ok done) new = IsTrue old.on × (sync : SyncNote) × (new ≡ with_notes old (noted sync old.notes))
 Syncs old (Err off) new = ((old.on ≡ false) × (new ≡ old)) ⊎ (IsTrue old.on × (new ≡ cut old))
 
 -- the same of a board that is read by its map
-abbrev pub with_numbers : Chart → ℕ → ℕ → ℕ → ℕ → Chart
-with_numbers c plans given pulled lives = record c { plans = plans; given = given; pulled = pulled; lives = lives }
+abbrev pub with_sync : Chart → SyncNote → Chart
+with_sync c sync = record c { notes = noted sync c.notes }
 
 abbrev pub SyncsChart : {T : Type 0} → Chart → Result T Off → Chart → Type 0
-SyncsChart old (Ok done) new = IsTrue old.on × (plans given : ℕ) × (new ≡ with_numbers old plans given old.plans old.given)
+SyncsChart old (Ok done) new = IsTrue old.on × (sync : SyncNote) × (new ≡ with_sync old sync)
 SyncsChart old (Err off) new = ((old.on ≡ false) × (new ≡ old)) ⊎ (IsTrue old.on × (new ≡ failed old))

@@ -1,6 +1,6 @@
 //! A board that can be brought to a disk, so that its words outlive the machine.
 #![tactic(auto)]
 
-mod on_disk;
+mod durable_board;
 
-pub use on_disk::{Compaction, OnDisk};
+pub use durable_board::{Compaction, Durable};

@@ -14,7 +14,7 @@ use Rattle.std.proofs.lemmas.Map.Made.{length-from_same_keys, IsDistinct-from_Al
 use Rattle.envy_base.specs.declared.shape.Shape.{Shape}
 use Rattle.envy_base.specs.declared.fields.Place.{Place}
 use Rattle.envy_base.specs.declared.fields.Place.TheVariants.{Absent, Row, Frame}
-use Rattle.envy_layout.proofs.RangeSums.{sum_by-indexed}
+use Rattle.envy_soundness.proofs.RangeSums.{sum_by-indexed}
 use Rattle.envy_frames.specs.declared.held.Held.{Held}
 use Rattle.envy_frames.specs.Agreement.{AreHeld, IsHeld, is_framed}
 use Rattle.envy_frames.proofs.Agreeing.{place-in}

@@ -10,7 +10,7 @@ use Rattle.envy_base.specs.declared.shape.Shape.{Shape}
 use Rattle.envy_base.specs.declared.fields.Place.{Place}
 use Rattle.envy_base.specs.declared.fields.Place.TheVariants.{Absent, Row, Frame}
 use Rattle.envy_base.specs.Shape.{IsShape, positions_of}
-use Rattle.envy_layout.specs.Sound.{Places}
+use Rattle.envy_soundness.specs.Sound.{Places}
 use Rattle.envy_frames.specs.declared.held.Held.{Held}
 use Rattle.envy_frames.specs.Order.{IsApart, IsOrder}
 use Rattle.envy_frames.specs.Agreement.{IsHeld, AreHeld, default_home, held_at, held_by_default}

@@ -1,6 +1,6 @@
 ghost use Rattle.std.specs.Prelude.{◌≡◌, ◌↔◌, ◌<◌, ◌≤◌, false, IsTrue, [], ◌∷◌, ◌++◌, length, IsErr, IsNone, IfNone, IfOk, IfSome, OnErr, OnOk, Any, slice_get};
 ghost use Rattle.std.specs.List.{filter};
-ghost use Rattle.envy_layout.specs.Sound.{IsSound};
+ghost use Rattle.envy_soundness.specs.Sound.{IsSound};
 ghost use Rattle.envy_map.specs.Fields.{chart};
 ghost use Rattle.envy_frames.specs.Agreement.{AreHeld, held_by_default};
 ghost use Rattle.envy_frames.specs.Order.{IsOrder, IsUnheld, is_other};

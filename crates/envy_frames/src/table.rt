@@ -1,6 +1,6 @@
 ghost use Rattle.std.specs.Prelude.{◌≡◌, ◌≤◌, [], length, map, IsOk, OnOk, IsTrue};
 ghost use Rattle.circular_buffer.specs.Buffer.{buffer};
-ghost use Rattle.envy_layout.specs.Sound.{IsSound};
+ghost use Rattle.envy_soundness.specs.Sound.{IsSound};
 ghost use Rattle.envy_map.specs.Fields.{chart};
 ghost use Rattle.envy_frames.specs.Agreement.{held_by_default};
 ghost use Rattle.envy_frames.specs.Entries.{AreHomes, unstamped};

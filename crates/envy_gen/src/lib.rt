@@ -6,8 +6,8 @@
 mod draws;
 mod laws;
 mod mix;
-mod writing;
+mod trace;
 
 pub use laws::generated_traces_read_back;
 pub use mix::{Mix, Skew};
-pub use writing::generate;
+pub use trace::generate;

@@ -1,8 +1,8 @@
 -- What a load leaves: work on any page, an open transaction, the words of the first pages.
 use Rattle.std.proofs.Common.{◌≡◌, ◌+◌, ◌<◌, ◌≤◌, ℕ, IsTrue, Result, length, arith, subst, sym}
 use Rattle.envy_base.specs.declared.board.Off.{Off}
-use Rattle.envy_base.specs.Words.{Sheet, Works, OnPage, Loads}
-use Rattle.envy_base.proofs.Working.{load_then_put, OnPage-refl}
+use Rattle.envy_array.specs.Words.{Sheet, Works, OnPage, Loads}
+use Rattle.envy_array.proofs.Working.{load_then_put, OnPage-refl}
 
 pub loaded : (p a : ℕ) (r : Result ℕ Off) (x y : Sheet) → Works 0 x y → Loads x a r y → OnPage p x y
 loaded p a r x y w l = load_then_put p a r x y y w l (OnPage-refl p y)

@@ -1,6 +1,7 @@
 -- The words of vectors.
 use Rattle.std.specs.Prelude.{ℕ, Bool, true, List, [], length, take}
-use Rattle.envy_base.specs.Words.{Sheet}
+use Rattle.envy_base.specs.State.{no_notes}
+use Rattle.envy_array.specs.Words.{Sheet}
 
 -- the first `used` of the pages are those put
 abbrev pub sheet_of : List ℕ → List ℕ → Bool → List ℕ → ℕ → Sheet
@@ -16,6 +17,7 @@ sheet_of words kept started pages used = record {
   work = record { programs = 0; erases = 0 };
   price = record { programs = 0; erases = 0 };
   fixed = [];
+  notes = no_notes;
   beside = [];
   kept_beside = [];
 }

@@ -1,5 +1,5 @@
 -- What a memory over plain vectors means.
-use Rattle.envy_base.specs.Words.{Sheet}
+use Rattle.envy_array.specs.Words.{Sheet}
 use Rattle.envy_heap.specs.declared.vec_words.VecWords.{VecWords}
 use Rattle.envy_heap.specs.Sheets.{sheet_of}
 

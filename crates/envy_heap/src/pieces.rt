@@ -1,9 +1,10 @@
 ghost use Rattle.std.specs.Prelude.{◌≡◌, ◌⊎◌, ◌↔◌, ℕ, ◌+◌, ◌<◌, ◌≤◌, List, IsTrue, false, MatchResult, IfOk, MatchOption, length, OnErr};
 ghost use Rattle.envy_base.specs.declared.board.Trouble.{Trouble};
-ghost use Rattle.envy_base.specs.Words.{Works, Spends, OnPage, Fails};
+ghost use Rattle.envy_array.specs.Words.{Works, Spends, OnPage, Fails};
 ghost use Rattle.envy_heap.specs.Pieces.{IsHeap, handed, TakesAs, Gives};
 
-use envy_base::{Trouble, Words};
+use envy_array::Words;
+use envy_base::Trouble;
 
 /// Hands out a piece that isn't handed out, or says that all are.
 pub fn take<W: Words>(words: &mut W) -> Result<Option<u32>, Trouble>

@@ -1,9 +1,10 @@
 ghost use Rattle.std.specs.Prelude.{◌≡◌, ◌<◌, ◌≤◌, ◌^◌, IfOk, length, replicate, false, []};
 ghost use Rattle.std.proofs.Props.{props};
-ghost use Rattle.envy_base.specs.Words.{IsSheet};
+ghost use Rattle.envy_array.specs.Words.{IsSheet};
 ghost use Rattle.envy_heap.specs.Sheets.{sheet_of};
 
-use envy_base::{NoMemory, Off, PAGE_WORDS, Trouble, Words};
+use envy_array::Words;
+use envy_base::{NoMemory, Off, PAGE_WORDS, Trouble};
 use std::alloc::Global;
 
 /// Words over plain vectors, which power never leaves and whose puts never fail.

@@ -1,11 +1,10 @@
 ghost use Rattle.std.specs.Prelude.{◌≡◌, true, false};
 ghost use Rattle.envy_device.specs.Device.{Only};
-ghost use Rattle.envy_record.specs.Calls.{Notes, have_failed, is_failure};
-ghost use Rattle.envy_record.specs.Noted.{call_of};
+ghost use Rattle.envy_device.specs.Calls.{Notes, have_failed, is_failure};
+ghost use Rattle.envy_device.specs.Noted.{call_of};
 
 use crate::folder::Folder;
-use envy_device::{DeviceFailed, ReplaceError, SecondFailed};
-use envy_record::{Made, RawFile, Record, Recorded};
+use envy_device::{DeviceFailed, FileCalls, LoggedFile, Made, Record, ReplaceError, SecondFailed};
 use std::fs::OpenFile;
 use std::io;
 use std::io::{Error, ErrorKind};
@@ -40,7 +39,7 @@ pub struct HostCalls<F, P> {
 }
 
 /// An open file of the host. Once a call on the file has failed, no later one is made.
-pub type HostFile<F, P> = Recorded<HostCalls<F, P>>;
+pub type HostFile<F, P> = LoggedFile<HostCalls<F, P>>;
 
 impl<F: FileExt + OpenFile + Drop, P: Folder<F>> HostCalls<F, P> {
     ghost use Rattle.envy_hostfile.specs.Host.{host_bytes, host_bytewise, host_failed, host_outcome};
@@ -65,7 +64,7 @@ impl<F: FileExt + OpenFile + Drop, P: Folder<F>> HostCalls<F, P> {
             tells: false,
             record: Record::new().and(&Made::Found { bytes }),
         };
-        Recorded::found(calls, bytes, bytewise)
+        LoggedFile::found(calls, bytes, bytewise)
     }
 
     // Notes a call that was just made, by its answer.
@@ -175,7 +174,7 @@ impl<F: FileExt + OpenFile + Drop, P: Folder<F>> HostCalls<F, P> {
     }
 }
 
-impl<F: FileExt + OpenFile + Drop, P: Folder<F>> RawFile for HostCalls<F, P> {
+impl<F: FileExt + OpenFile + Drop, P: Folder<F>> FileCalls for HostCalls<F, P> {
     ghost calls = { λ host. host.record.calls };
 
     fn has_failed(&self) -> bool {

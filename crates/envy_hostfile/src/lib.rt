@@ -2,10 +2,10 @@
 //! kit's `std::fs`. A second file, whose name is that of the first with `.envy-new` after it, is made beside it, locked,
 //! written, synced and given the first one's name, and then the folder is synced.
 //!
-//! No contract can say what a real file holds: `envy_record` defines it by the record of the calls that were made. What is
+//! No contract can say what a real file holds: `envy_device` defines it by the record of the calls that were made. What is
 //! trusted here: that each method of `HostCalls` makes the calls that it notes (read `host.rt` and `folder.rt` for it),
 //! that nobody else writes either file or gives their names to others between a look at a name and the call after it, and that the kernel and the disk keep to `specs/Calls.antt` of
-//! `envy_record`: among that, that a rename leaves the name with either file, whole, and once the folder is synced with the
+//! `envy_device`: among that, that a rename leaves the name with either file, whole, and once the folder is synced with the
 //! second.
 //!
 //! A file that has bytes and doesn't begin as a journal does isn't read further, and nothing is made beside it. One of which
@@ -23,11 +23,11 @@
 //! file's any more, and says that it is in use.
 #![tactic(auto)]
 
-mod copying;
+mod backup;
 mod descriptors;
 mod folder;
 mod host;
-mod opening;
+mod opened_file;
 #[cfg(test)]
 mod pieces;
 #[cfg(test)]
@@ -35,4 +35,4 @@ mod tests;
 
 pub use folder::{Folder, Names};
 pub use host::{HostCalls, HostFile};
-pub use opening::{OpenFault, open};
+pub use opened_file::{OpenFault, open};

@@ -1,6 +1,6 @@
 // Files that are read in several pieces.
 use crate::open;
-use crate::opening::PIECE;
+use crate::opened_file::PIECE;
 use std::fs;
 use std::process::Abort;
 

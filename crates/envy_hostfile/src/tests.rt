@@ -1,6 +1,6 @@
 use crate::folder::is_named;
 use crate::{Folder, HostCalls, HostFile, Names, OpenFault, open};
-use envy_device::{Device, Place, ReplaceError};
+use envy_device::{Device, ReplaceError, Replaceable};
 use std::cell::Cell;
 use std::fmt::Debug;
 use std::fs::{self, File, Metadata, OpenFile, Permissions};

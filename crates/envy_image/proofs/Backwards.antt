@@ -15,7 +15,7 @@ use Rattle.envy_io.specs.Taking.{Taking}
 use Rattle.envy_image.specs.Backwards.{HoldTheSame, BeginWithOneImage, GivesBack}
 use Rattle.envy_image.specs.Image.{mark_of, word_bytes, words_bytes, rows_bytes, number_bytes, numbers_bytes, numbers_of, numbers_size, head_of, head_with, head_size, is_extended, body_of, image_of, FitNumbers}
 use Rattle.envy_image.specs.Installing.{Goes, Installs, body_size}
-use Rattle.envy_image.specs.declared.installing.InFault.{InFault}
+use Rattle.envy_image.specs.declared.installation.InFault.{InFault}
 use Rattle.envy_image.proofs.Programming.{length-words}
 
 -- of two equal texts in two parts, where the fronts are equally long, the fronts are equal

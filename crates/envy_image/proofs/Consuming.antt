@@ -6,14 +6,14 @@ use Rattle.envy_base.specs.declared.shape.ShapeFault.{ShapeFault}
 use Rattle.envy_base.specs.declared.shape.ShapeFault.TheVariants.{Reserves}
 use Rattle.envy_base.specs.Shape.{checked, version_of}
 use Rattle.envy_base.proofs.Versions.{version-known, version-plain}
-use Rattle.envy_image.specs.declared.reading.HeadFault.TheVariants.{Shape as BadShape}
+use Rattle.envy_image.specs.declared.reader.HeadFault.TheVariants.{Shape as BadShape}
 use Rattle.envy_io.specs.Streams.{Feed, with_front}
 use Rattle.envy_io.specs.Taking.{Taking}
 use Rattle.envy_io.specs.Fetching.{Draws}
 use Rattle.envy_io.proofs.Counts.{Rises-after}
 use Rattle.envy_io.proofs.TakesLemmas.{with_front-with_front}
-use Rattle.envy_image.specs.declared.reading.Stop.{Stop}
-use Rattle.envy_image.specs.declared.reading.Stop.TheVariants.{Short, Failed, Spent}
+use Rattle.envy_image.specs.declared.reader.Stop.{Stop}
+use Rattle.envy_image.specs.declared.reader.Stop.TheVariants.{Short, Failed, Spent}
 use Rattle.envy_image.specs.Faults.{head_fault}
 use Rattle.envy_image.specs.Image.{mark_of, head_of, head_with, is_extended, number_bytes, numbers_bytes, numbers_of, numbers_size, FitNumbers}
 use Rattle.envy_image.specs.Installing.{IsWithin}

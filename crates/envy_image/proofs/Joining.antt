@@ -11,8 +11,8 @@ use Rattle.envy_io.specs.Streams.{Drain, WritesAll, with_end}
 use Rattle.envy_io.proofs.WritesLemmas.{with_end-with_end, with_end-nil}
 use Rattle.envy_io.proofs.Counts.{Rises-after}
 use Rattle.envy_io.proofs.Pieces.{AfterPiece-append}
-use Rattle.envy_image.specs.declared.writing.OutFault.{OutFault}
-use Rattle.envy_image.specs.declared.writing.OutFault.TheVariants.{Off, Failed}
+use Rattle.envy_image.specs.declared.writer.OutFault.{OutFault}
+use Rattle.envy_image.specs.declared.writer.OutFault.TheVariants.{Off, Failed}
 use Rattle.envy_base.specs.declared.shape.Shape.{Shape}
 use Rattle.envy_base.specs.Map.{words_of}
 use Rattle.envy_base.specs.State.{State}

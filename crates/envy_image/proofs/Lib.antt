@@ -6,3 +6,4 @@ pub mod Pieces
 pub mod Programming
 pub mod Stopping
 pub mod Upsetting
+pub mod Lines

@@ -7,8 +7,8 @@ use Rattle.std.proofs.lemmas.Grind.{flat_map-append}
 use Rattle.envy_base.specs.State.{State, Puts, with_word}
 use Rattle.envy_io.specs.Streams.{Drain, Feed, WritesAll}
 use Rattle.envy_io.specs.Taking.{Taking}
-use Rattle.envy_image.specs.declared.writing.OutFault.{OutFault}
-use Rattle.envy_image.specs.declared.writing.OutFault.TheVariants.{Off, Failed}
+use Rattle.envy_image.specs.declared.writer.OutFault.{OutFault}
+use Rattle.envy_image.specs.declared.writer.OutFault.TheVariants.{Off, Failed}
 use Rattle.envy_image.specs.Image.{word_bytes, words_bytes}
 use Rattle.envy_image.specs.Installing.{Goes, HasPut, Filled}
 use Rattle.envy_image.specs.Reading.{Consumes}

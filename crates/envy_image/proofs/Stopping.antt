@@ -10,10 +10,10 @@ use Rattle.envy_image.specs.Faults.{in_fault}
 use Rattle.envy_image.specs.Image.{rows_bytes, words_bytes}
 use Rattle.envy_image.specs.Reading.{Consumes, Ends, Stops}
 use Rattle.envy_image.specs.Installing.{IsWithin, HasReadHead, Goes, StopsInBody, StopsAs, Installs, Installed, Blanked, Programmed, Filled, FillsWords, body_size, count_after}
-use Rattle.envy_image.specs.declared.installing.InFault.{InFault}
-use Rattle.envy_image.specs.declared.installing.InFault.TheVariants.{Short, Upset, Failed, Spent}
-use Rattle.envy_image.specs.declared.reading.Stop.{Stop}
-use Rattle.envy_image.specs.declared.reading.Stop.TheVariants.{Short as StopShort, Failed as StopFailed, Spent as StopSpent}
+use Rattle.envy_image.specs.declared.installation.InFault.{InFault}
+use Rattle.envy_image.specs.declared.installation.InFault.TheVariants.{Short, Upset, Failed, Spent}
+use Rattle.envy_image.specs.declared.reader.Stop.{Stop}
+use Rattle.envy_image.specs.declared.reader.Stop.TheVariants.{Short as StopShort, Failed as StopFailed, Spent as StopSpent}
 use Rattle.envy_image.proofs.Consuming.{consumes-both, ends-later, stops-later}
 use Rattle.envy_image.proofs.Upsetting.{goes-both, upsets-later}
 use Rattle.envy_image.proofs.Blanking.{blanked-goes}

@@ -3,7 +3,7 @@ use Rattle.std.specs.Prelude.{◌≡◌, List, [], ℕ, ◌++◌, OnOk, Some, Re
 use Rattle.envy_base.specs.State.{State, IsBoard}
 use Rattle.envy_io.specs.Streams.{Feed}
 use Rattle.envy_io.specs.Taking.{Taking}
-use Rattle.envy_image.specs.declared.installing.InFault.{InFault}
+use Rattle.envy_image.specs.declared.installation.InFault.{InFault}
 use Rattle.envy_image.specs.Image.{body_of, image_of}
 
 -- two boards of one shape hold the same words

@@ -1,10 +1,10 @@
 -- Which fault of reading an image a stop of its bytes is.
-use Rattle.envy_image.specs.declared.reading.HeadFault.{HeadFault}
-use Rattle.envy_image.specs.declared.reading.HeadFault.TheVariants.{Short, Failed, Spent}
-use Rattle.envy_image.specs.declared.installing.InFault.{InFault}
-use Rattle.envy_image.specs.declared.installing.InFault.TheVariants.{Short as InShort, Failed as InFailed, Spent as InSpent}
-use Rattle.envy_image.specs.declared.reading.Stop.{Stop}
-use Rattle.envy_image.specs.declared.reading.Stop.TheVariants.{Short as StopShort, Failed as StopFailed, Spent as StopSpent}
+use Rattle.envy_image.specs.declared.reader.HeadFault.{HeadFault}
+use Rattle.envy_image.specs.declared.reader.HeadFault.TheVariants.{Short, Failed, Spent}
+use Rattle.envy_image.specs.declared.installation.InFault.{InFault}
+use Rattle.envy_image.specs.declared.installation.InFault.TheVariants.{Short as InShort, Failed as InFailed, Spent as InSpent}
+use Rattle.envy_image.specs.declared.reader.Stop.{Stop}
+use Rattle.envy_image.specs.declared.reader.Stop.TheVariants.{Short as StopShort, Failed as StopFailed, Spent as StopSpent}
 
 abbrev pub head_fault : Stop → HeadFault
 head_fault StopShort = Short

@@ -1,18 +1,17 @@
 -- What installing an image does to a board.
 use Rattle.std.specs.Prelude.{◌≡◌, ◌⊎◌, ℕ, ◌+◌, ◌-◌, ◌*◌, ◌/◌, ◌^◌, ◌<◌, ◌≤◌, min, max, false, IsTrue, List, length, take, ◌++◌, slice_index, Result, Ok, Err}
-use Rattle.envy_base.specs.Counting.{up}
+use Rattle.envy_base.specs.Counting.{Rose, up}
 use Rattle.envy_base.specs.Map.{words_of}
 use Rattle.envy_base.specs.State.{State, IsOnes, IsPage, row_of}
-use Rattle.envy_base.specs.Words.{Rose}
 use Rattle.envy_base.specs.declared.board.Off.{Off}
 use Rattle.envy_base.specs.declared.board.Trouble.{Trouble}
 use Rattle.envy_base.specs.declared.shape.Shape.{Shape}
 use Rattle.envy_io.specs.Streams.{Feed}
 use Rattle.envy_io.specs.Taking.{Taking}
-use Rattle.envy_image.specs.declared.installing.InFault.{InFault}
-use Rattle.envy_image.specs.declared.installing.InFault.TheVariants.{Short, Upset, Failed, Spent}
-use Rattle.envy_image.specs.declared.reading.Stop.{Stop}
-use Rattle.envy_image.specs.declared.reading.Stop.TheVariants.{Short as StopShort, Failed as StopFailed, Spent as StopSpent}
+use Rattle.envy_image.specs.declared.installation.InFault.{InFault}
+use Rattle.envy_image.specs.declared.installation.InFault.TheVariants.{Short, Upset, Failed, Spent}
+use Rattle.envy_image.specs.declared.reader.Stop.{Stop}
+use Rattle.envy_image.specs.declared.reader.Stop.TheVariants.{Short as StopShort, Failed as StopFailed, Spent as StopSpent}
 use Rattle.envy_image.specs.Image.{head_of, body_of, rows_bytes, words_bytes}
 use Rattle.envy_image.specs.Reading.{Consumes, Ends, Stops}
 use Rattle.envy_base.specs.declared.page.TheConstants.{PAGE_WORDS}

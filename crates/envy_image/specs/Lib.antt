@@ -4,3 +4,4 @@ pub mod Image
 pub mod Installing
 pub mod Reading
 pub mod Writing
+pub mod Segments

@@ -7,10 +7,10 @@ use Rattle.envy_base.specs.Shape.{checked, version_of}
 use Rattle.envy_io.specs.Streams.{Feed, Rises}
 use Rattle.envy_io.specs.Taking.{Taking}
 use Rattle.envy_io.specs.Fetching.{Draws}
-use Rattle.envy_image.specs.declared.reading.HeadFault.{HeadFault}
-use Rattle.envy_image.specs.declared.reading.HeadFault.TheVariants.{Short, Mark, Shape as BadShape, Failed, Spent}
-use Rattle.envy_image.specs.declared.reading.Stop.{Stop}
-use Rattle.envy_image.specs.declared.reading.Stop.TheVariants.{Short as StopShort, Failed as StopFailed, Spent as StopSpent}
+use Rattle.envy_image.specs.declared.reader.HeadFault.{HeadFault}
+use Rattle.envy_image.specs.declared.reader.HeadFault.TheVariants.{Short, Mark, Shape as BadShape, Failed, Spent}
+use Rattle.envy_image.specs.declared.reader.Stop.{Stop}
+use Rattle.envy_image.specs.declared.reader.Stop.TheVariants.{Short as StopShort, Failed as StopFailed, Spent as StopSpent}
 use Rattle.envy_image.specs.Image.{mark_of, head_of, head_with, word_bytes, numbers_bytes, numbers_of, numbers_size, FitNumbers}
 
 -- These bytes came next. Nothing was taken beyond them where nothing was held before.

@@ -3,8 +3,8 @@ use Rattle.std.specs.Prelude.{◌≡◌, Bool, false, IsTrue, List, ℕ, take, R
 use Rattle.envy_io.specs.declared.source.Failed.{Failed as NoWrite}
 use Rattle.envy_io.specs.Streams.{Drain, WritesAll}
 use Rattle.envy_image.specs.Image.{words_bytes}
-use Rattle.envy_image.specs.declared.writing.OutFault.{OutFault}
-use Rattle.envy_image.specs.declared.writing.OutFault.TheVariants.{Off, Failed}
+use Rattle.envy_image.specs.declared.writer.OutFault.{OutFault}
+use Rattle.envy_image.specs.declared.writer.OutFault.TheVariants.{Off, Failed}
 
 -- bytes are written whole, or a front of them where the sink failed; nothing where power is off
 abbrev pub WritesOut : Bool → Drain → List ℕ → Result Unit OutFault → Drain → Type 0

@@ -3,7 +3,8 @@ use Rattle.std.proofs.Common.{◌≡◌, ◌⊎◌, inl, inr, ℕ, ◌+◌, ◌*
 use Rattle.std.specs.Prelude.{Result, Ok, Err, Option}
 use Rattle.std.proofs.lemmas.Bool.{cases_lt}
 use Rattle.std.proofs.lemmas.List.{drop-drop, length-map, take-append-drop}
-use Rattle.envy_base.specs.Words.{Sheet, IsSheet, Works, Keeps, Spends, Undoes, Rose, Fails}
+use Rattle.envy_array.specs.Words.{Sheet, IsSheet, Works, Keeps, Spends, Undoes, Fails}
+use Rattle.envy_base.specs.Counting.{Rose}
 use Rattle.envy_base.specs.declared.board.Off.{Off as OffNow}
 use Rattle.envy_base.specs.declared.board.Trouble.{Trouble}
 use Rattle.envy_base.specs.declared.board.Trouble.TheVariants.{Off as TroubleOff, Bad as TroubleBad}
@@ -69,7 +70,7 @@ viewed range first count k old mid law then r w =
     record {
       stays = same;
       kept = whole range.first range.words mid.kept old.kept (omega (arith, r.fits, long, then.long)) (omega (arith, r.fits, law.long)) inner (Stays.kept same);
-      steady = record { fixed = ap (λ (ns : List ℕ). drop 3 ns) w.fixed; cuts = w.cuts; bads = w.bads; cut = w.cut };
+      steady = record { fixed = ap (λ (ns : List ℕ). drop 3 ns) w.fixed; notes = w.notes; cuts = w.cuts; bads = w.bads; cut = w.cut };
     }
 
 -- the same view, by its own words
@@ -183,15 +184,16 @@ settled-removal range key es left old mid new fault Bad s st e =
 -- ---- in a row
 
 pub steady-refl : (s : Sheet) → Steady s s
-steady-refl s = record { fixed = refl; cuts = omega arith; bads = omega arith; cut = λ on dark. absurd (let clash : true ≡ false = sym on ∙ dark in cc) }
+steady-refl s = record { fixed = refl; notes = refl; cuts = omega arith; bads = omega arith; cut = λ on dark. absurd (let clash : true ≡ false = sym on ∙ dark in cc) }
 
 pub steady-keeps : (old new : Sheet) → Keeps old new → Steady old new
-steady-keeps old new k = record { fixed = k.fixed; cuts = k.cuts; bads = k.bads; cut = k.cut }
+steady-keeps old new k = record { fixed = k.fixed; notes = k.notes; cuts = k.cuts; bads = k.bads; cut = k.cut }
 
 -- power failed in the first part or in the second
 pub steady-trans : (a b c : Sheet) → Steady a b → Steady b c → Steady a c
 steady-trans a b c s t = record {
   fixed = t.fixed ∙ s.fixed;
+  notes = t.notes ∙ s.notes;
   cuts = omega (arith, s.cuts, t.cuts);
   bads = omega (arith, s.bads, t.bads);
   cut = λ on dark lt. at b.on refl on dark lt;

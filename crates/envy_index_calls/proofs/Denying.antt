@@ -55,10 +55,8 @@ works-none puts p = record {
   cuts = omega arith;
   bads = omega arith;
   cut = λ on off. absurd (let e : true ≡ false = sym on ∙ off in cc);
-  pulled = refl;
-  plans = refl;
-  given = refl;
-  lives = refl;
+  fixed = refl;
+  notes = refl;
   programs = omega arith;
   erases = omega arith;
 }

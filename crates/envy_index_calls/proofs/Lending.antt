@@ -3,8 +3,9 @@ use Rattle.std.proofs.Common.{◌≡◌, ◌≢◌, ◌⊎◌, inl, inr, ℕ, �
 use Rattle.std.specs.Prelude.{◌&&◌, IsTrue, IfOk, Option, None, Some, Result, Ok, Err, replicate}
 use Rattle.std.specs.Option.{ForSome}
 use Rattle.std.proofs.lemmas.List.{ext_get_or, length-replicate, get_or-replicate}
-use Rattle.envy_base.specs.Array.{Array, Saved, IsArray, slot_of}
-use Rattle.envy_base.specs.Words.{Sheet, Works as SheetWorks, Spends, Keeps, Rose}
+use Rattle.envy_array.specs.Array.{Array, Saved, IsArray, slot_of}
+use Rattle.envy_array.specs.Words.{Sheet, Works as SheetWorks, Spends, Keeps}
+use Rattle.envy_base.specs.Counting.{Rose}
 use Rattle.envy_base.specs.declared.board.Trouble.{Trouble}
 use Rattle.envy_base.specs.declared.board.Trouble.TheVariants.{Off as TroubleOff, Bad as TroubleBad}
 use Rattle.envy_base.specs.declared.page.TheConstants.{PAGE_WORDS}
@@ -18,9 +19,9 @@ use Rattle.envy_btree.specs.declared.fault.LookFault.TheVariants.{Off as LookOff
 use Rattle.envy_btree.specs.declared.fault.TreeFault.{TreeFault}
 use Rattle.envy_btree.specs.declared.fault.TreeFault.TheVariants.{Off as FaultOff, Full as FaultFull, Bad as FaultBad}
 use Rattle.envy_btree.proofs.Felling.{without-missing}
-use Rattle.envy_layout.proofs.WordLists.{length-durable}
-use Rattle.envy_layout.specs.Stands.{Holds, Stands, slot_word}
-use Rattle.envy_layout.specs.Words.{durable}
+use Rattle.envy_soundness.proofs.WordLists.{length-durable}
+use Rattle.envy_meaning.specs.Stands.{Holds, Stands, slot_word}
+use Rattle.envy_soundness.specs.Words.{durable}
 use Rattle.envy_map.specs.Fields.{Chart, slot}
 use Rattle.envy_memory.specs.Lawful.{words_long}
 use Rattle.envy_memory.specs.Picture.{Picture}
@@ -90,17 +91,15 @@ shape-same s t e1 e2 e3 e4 e5 e6 e7 e8 =
 shape-fixed : (c d : Chart) → fixed_of d ≡ fixed_of c → d.shape ≡ c.shape
 shape-fixed c d same = shape-same d.shape c.shape (cc) (cc) (cc) (cc) (cc) (cc) (cc) (cc)
 
--- the numbers that no call changes, one by one
-pub fixed-works : (puts : ℕ) (p q : Picture) (b d : Bool) → fixed_of q.chart ≡ fixed_of p.chart → p.chart.cuts ≤ q.chart.cuts → p.chart.bads ≤ q.chart.bads → (IsTrue p.chart.on → q.chart.on ≡ false → Rose p.chart.cuts q.chart.cuts) → Spends puts (sheet_of p b) (sheet_of q d) → Works puts p q
-fixed-works puts p q b d same cuts bads cut s = record {
+-- what no call changes
+pub fixed-works : (puts : ℕ) (p q : Picture) (b d : Bool) → fixed_of q.chart ≡ fixed_of p.chart → q.chart.notes ≡ p.chart.notes → p.chart.cuts ≤ q.chart.cuts → p.chart.bads ≤ q.chart.bads → (IsTrue p.chart.on → q.chart.on ≡ false → Rose p.chart.cuts q.chart.cuts) → Spends puts (sheet_of p b) (sheet_of q d) → Works puts p q
+fixed-works puts p q b d same notes cuts bads cut s = record {
   shape = shape-fixed p.chart q.chart same;
   cuts = cuts;
   bads = bads;
   cut = cut;
-  pulled = (cc);
-  plans = (cc);
-  given = (cc);
-  lives = (cc);
+  fixed = same;
+  notes = notes;
   programs = s.programs;
   erases = s.erases;
 }
@@ -118,11 +117,11 @@ serves-back q d es b on map = record { shut = shut-back q d b on; map = subst (�
 
 -- what the map did to the words the memory did
 pub works-back : (p q : Picture) (b d : Bool) → SheetWorks 0 (sheet_of p b) (sheet_of q d) → Spends 0 (sheet_of p b) (sheet_of q d) → Works 0 p q
-works-back p q b d w s = fixed-works 0 p q b d w.fixed w.cuts w.bads w.cut s
+works-back p q b d w s = fixed-works 0 p q b d w.fixed w.notes w.cuts w.bads w.cut s
 
 -- what leaves the words leaves the memory's answers
 pub keeps-back : (puts : ℕ) (p q : Picture) (b d : Bool) → Keeps (sheet_of p b) (sheet_of q d) → Spends puts (sheet_of p b) (sheet_of q d) → Works puts p q
-keeps-back puts p q b d w s = fixed-works puts p q b d w.fixed w.cuts w.bads w.cut s
+keeps-back puts p q b d w s = fixed-works puts p q b d w.fixed w.notes w.cuts w.bads w.cut s
 
 rests-back : (p q : Picture) (b d : Bool) → SheetWorks 0 (sheet_of p b) (sheet_of q d) → Back q d → IsTrue q.chart.on → Rests p q
 rests-back p q b d w back on = record { shut = shut-back q d back on; same = w.kept }
@@ -210,10 +209,8 @@ works-same p = record {
   cuts = omega arith;
   bads = omega arith;
   cut = λ on off. absurd (let e : true ≡ false = sym on ∙ off in cc);
-  pulled = refl;
-  plans = refl;
-  given = refl;
-  lives = refl;
+  fixed = refl;
+  notes = refl;
   programs = omega arith;
   erases = omega arith;
 }

@@ -6,12 +6,12 @@ use Rattle.std.proofs.Math.Logic.{∥∥₁_elim, ∥∥₁_map}
 use Rattle.std.proofs.Props.{props}
 use Rattle.std.proofs.lemmas.Bool.{cases_eq}
 use Rattle.std.proofs.lemmas.List.{ext_get_or, length-map, length-replicate, get_or-replicate}
-use Rattle.envy_base.specs.Array.{Array, Saved, IsArray, slot_of}
+use Rattle.envy_array.specs.Array.{Array, Saved, IsArray, slot_of}
 use Rattle.envy_base.specs.Shape.{version_of}
 use Rattle.envy_base.specs.declared.fields.Slot.TheVariants.{Active, Vacant}
 use Rattle.envy_base.specs.declared.page.TheConstants.{PAGE_WORDS}
-use Rattle.envy_layout.specs.Stands.{Holds, Stands, slot_word}
-use Rattle.envy_layout.specs.Words.{live, durable}
+use Rattle.envy_meaning.specs.Stands.{Holds, Stands, slot_word}
+use Rattle.envy_soundness.specs.Words.{live, durable}
 use Rattle.envy_map.specs.Fields.{Chart, slot}
 use Rattle.envy_memory.specs.Calls.{fresh}
 use Rattle.envy_memory.specs.Lawful.{words_long}
@@ -19,7 +19,7 @@ use Rattle.envy_memory.specs.Picture.{Picture}
 use Rattle.envy_memory.specs.Sheets.{IsHeld, OnlyFirst, sheet_of, words_read}
 use Rattle.envy_memory.proofs.Ended.{shut-stands}
 use Rattle.envy_memory.proofs.Transacting.{words-held}
-use Rattle.envy_layout.specs.Sound.{IsSound}
+use Rattle.envy_soundness.specs.Sound.{IsSound}
 use Rattle.envy_map.specs.Codes.{the_magic}
 use Rattle.envy_index_calls.specs.Indexed.{HasOpenFrom, HoldsArray, IsShut}
 use Rattle.envy_index_calls.specs.Ranges.{HasFirst, IsOpen, MayHold, MayWork, Denies, IsRange, LendsFor, first_barred}

@@ -2,10 +2,11 @@
 use Rattle.std.proofs.Common.{◌≡◌, ◌≢◌, ◌⊎◌, inl, inr, ℕ, ◌+◌, ◌*◌, ◌-◌, ◌<◌, ◌≤◌, Bool, true, false, IsTrue, List, [], ◌∷◌, length, map, refl, sym, ◌∙◌, ap, subst, arith}
 use Rattle.std.specs.Prelude.{◌&&◌, Option, None, Some, Result, Ok, Err, OnOk}
 use Rattle.std.specs.Option.{ForSome}
-use Rattle.envy_base.specs.Words.{IsSheet, Sheet, Spends, Works as SheetWorks, Rose, Starts as SheetStarts, Finishes, Undoes, Keeps as SheetKeeps}
+use Rattle.envy_array.specs.Words.{IsSheet, Sheet, Spends, Works as SheetWorks, Starts as SheetStarts, Finishes, Undoes, Keeps as SheetKeeps}
+use Rattle.envy_base.specs.Counting.{Rose}
 use Rattle.envy_base.specs.declared.board.Off.{Off as OffNow}
 use Rattle.envy_base.specs.declared.page.TheConstants.{PAGE_WORDS}
-use Rattle.envy_layout.specs.Words.{live, durable}
+use Rattle.envy_soundness.specs.Words.{live, durable}
 use Rattle.envy_memory.specs.Picture.{Picture}
 use Rattle.envy_memory.specs.Sheets.{sheet_of}
 use Rattle.envy_range.specs.Ranges.{inside, outside}
@@ -37,7 +38,7 @@ pub called : (puts : ℕ) (Left : Picture → Picture → Code → Type 0) (whos
 called puts Left whose range old new p q b code g is works left = subst (λ (o : Option Picture). Calls puts Left o new (number_of code)) (sym g.is) (q, code, is, refl, works, left)
 
 pub steady-back : (puts : ℕ) (p q : Picture) (b d : Bool) → Steady (sheet_of p b) (sheet_of q d) → Spends puts (sheet_of p b) (sheet_of q d) → Works puts p q
-steady-back puts p q b d s spends = fixed-works puts p q b d s.fixed s.cuts s.bads s.cut spends
+steady-back puts p q b d s spends = fixed-works puts p q b d s.fixed s.notes s.cuts s.bads s.cut spends
 
 -- the words of a range, before and after
 pub in-range : (range : EnvyMap) (b : Bool) (p : Picture) → (sheet_of p b).words ≡ live p.chart → (view_of range (sheet_of p b)).words ≡ words_in range p
@@ -151,7 +152,7 @@ drop-stays (Err fault) code before after tells other = tells.1
 -- ---- transactions
 
 pub keeps-steady : (puts : ℕ) (p q : Picture) (b d : Bool) → SheetKeeps (sheet_of p b) (sheet_of q d) → Spends puts (sheet_of p b) (sheet_of q d) → Works puts p q
-keeps-steady puts p q b d k spends = fixed-works puts p q b d k.fixed k.cuts k.bads k.cut spends
+keeps-steady puts p q b d k spends = fixed-works puts p q b d k.fixed k.notes k.cuts k.bads k.cut spends
 
 nothing-in : {A B : Type 0} (f : A → B) (xs : List A) → map f xs ≡ [] → xs ≡ []
 nothing-in f [] is = refl

@@ -1,8 +1,8 @@
 -- A look-up through a view of a range: what it leaves of the memory, and what it tells of a map there.
 use Rattle.std.proofs.Common.{◌≡◌, ◌≢◌, ◌⊎◌, inl, inr, ℕ, ◌≤◌, Bool, true, false, IsTrue, List, length, refl, sym, ◌∙◌, ap, subst, arith}
 use Rattle.std.specs.Prelude.{◌&&◌, Option, None, Some, Result, Ok, Err}
-use Rattle.envy_base.specs.Words.{IsSheet, Sheet, Works as SheetWorks, Spends}
-use Rattle.envy_layout.specs.Words.{live}
+use Rattle.envy_array.specs.Words.{IsSheet, Sheet, Works as SheetWorks, Spends}
+use Rattle.envy_soundness.specs.Words.{live}
 use Rattle.envy_memory.specs.Picture.{Picture}
 use Rattle.envy_memory.specs.Sheets.{sheet_of}
 use Rattle.envy_btree.specs.Answers.{Gets as TreeGets, Counts as TreeCounts}

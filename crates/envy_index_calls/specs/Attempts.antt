@@ -1,6 +1,7 @@
 -- A change in a range of words within their open transaction, which is undone if a flash operation fails.
 use Rattle.std.specs.Prelude.{◌≡◌, ℕ, ◌≤◌, false, IsTrue, Result, Ok, Err}
-use Rattle.envy_base.specs.Words.{Sheet, Rose}
+use Rattle.envy_array.specs.Words.{Sheet}
+use Rattle.envy_base.specs.Counting.{Rose}
 use Rattle.envy_range.specs.Ranges.{outside, within}
 use Rattle.envy_btree.specs.declared.fault.ChangeFault.{ChangeFault}
 use Rattle.envy_btree.specs.declared.fault.ChangeFault.TheVariants.{Off, Full, Room, Bad}
@@ -15,6 +16,7 @@ view_of range s = within range.first range.words s
 -- what every call keeps
 pub record Steady (old new : Sheet) : Type 0 where
   pub fixed : new.fixed ≡ old.fixed
+  pub notes : new.notes ≡ old.notes
   pub cuts : old.cuts ≤ new.cuts
   pub bads : old.bads ≤ new.bads
   pub cut : IsTrue old.on → new.on ≡ false → Rose old.cuts new.cuts

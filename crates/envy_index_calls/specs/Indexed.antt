@@ -1,18 +1,20 @@
 -- What the calls of a map answer by a code, and what they leave. The map is the whole array's: it is what the committed
 -- words of the memory stand for, as an index tree.
 use Rattle.std.specs.Prelude.{◌≡◌, ◌≢◌, ◌⊎◌, ℕ, zero, suc, ◌+◌, ◌*◌, ◌<◌, ◌≤◌, Bool, true, false, IsTrue, List, [], length, replicate, slice_set, sum, Option, None, Some, Result, Ok, Err}
-use Rattle.envy_base.specs.Array.{Array}
-use Rattle.envy_base.specs.Words.{Sheet, Rose}
+use Rattle.envy_array.specs.Array.{Array}
+use Rattle.envy_array.specs.Words.{Sheet}
+use Rattle.envy_base.specs.Counting.{Rose}
 use Rattle.envy_base.specs.declared.board.Trouble.{Trouble}
 use Rattle.envy_base.specs.declared.board.Trouble.TheVariants.{Off as TroubleOff, Bad as TroubleBad}
 use Rattle.envy_base.specs.declared.fields.Slot.TheVariants.{Active}
 use Rattle.envy_base.specs.declared.page.TheConstants.{PAGE_WORDS}
 use Rattle.envy_map.specs.Fields.{Chart, slot as slot_of}
-use Rattle.envy_layout.specs.Stands.{Stands}
-use Rattle.envy_layout.specs.Words.{durable}
+use Rattle.envy_meaning.specs.Stands.{Stands}
+use Rattle.envy_soundness.specs.Words.{durable}
 use Rattle.envy_memory.specs.Below.{flush_programs, flush_erases}
 use Rattle.envy_memory.specs.Calls.{fresh}
 use Rattle.envy_memory.specs.Picture.{Picture}
+use Rattle.envy_memory.specs.Sheets.{fixed_of}
 use Rattle.envy_btree.specs.Answers.{IsFull, IsWritten}
 use Rattle.envy_btree.specs.Index.{IsIndex}
 use Rattle.envy_btree.specs.Pairs.{assoc, with_pair, without}
@@ -79,17 +81,15 @@ Declines p MapSetup = (p.chart.shape.pages < 20) ⊎ (MOST_MAP_PAGES < p.chart.s
 Declines p SlotOpen = HasOpenFrom 0 p.chart true × (20 ≤ p.chart.shape.pages) × (p.chart.shape.pages ≤ MOST_MAP_PAGES) × (32 ≤ p.chart.shape.shadows)
 Declines p code = ⊥
 
--- What every call does: sizes stay, and the numbers that a board over a file tells of its disk by; power that was on and is
--- off failed in the call. No more flash work began than so many puts may begin.
+-- What every call does: sizes stay, and so do cuts by hand, plans, returns of power, and what the board's owner notes; power that
+-- was on and is off failed in the call. No more flash work began than so many puts may begin.
 pub record Works (puts : ℕ) (p q : Picture) : Type 0 where
   pub shape : q.chart.shape ≡ p.chart.shape
   pub cuts : p.chart.cuts ≤ q.chart.cuts
   pub bads : p.chart.bads ≤ q.chart.bads
   pub cut : IsTrue p.chart.on → q.chart.on ≡ false → Rose p.chart.cuts q.chart.cuts
-  pub pulled : q.chart.pulled ≡ p.chart.pulled
-  pub plans : q.chart.plans ≡ p.chart.plans
-  pub given : q.chart.given ≡ p.chart.given
-  pub lives : q.chart.lives ≡ p.chart.lives
+  pub fixed : fixed_of q.chart ≡ fixed_of p.chart
+  pub notes : q.chart.notes ≡ p.chart.notes
   pub programs : q.chart.begun ≤ p.chart.begun + puts * flush_programs p.chart.shape.rows
   pub erases : sum q.chart.erases ≤ sum p.chart.erases + puts * flush_erases
 

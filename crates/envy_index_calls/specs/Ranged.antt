@@ -1,9 +1,9 @@
 -- What the calls of maps in ranges answer by a code, and what they leave, within a transaction of several maps.
 use Rattle.std.specs.Prelude.{◌≡◌, ◌⊎◌, ℕ, ◌*◌, ◌-◌, true, false, IsTrue, List, [], length, slice_set, Option, None, Some, Result, Ok, Err}
-use Rattle.envy_base.specs.Words.{Rose}
+use Rattle.envy_base.specs.Counting.{Rose}
 use Rattle.envy_base.specs.declared.board.Off.{Off}
 use Rattle.envy_base.specs.declared.page.TheConstants.{PAGE_WORDS}
-use Rattle.envy_layout.specs.Words.{live, durable}
+use Rattle.envy_soundness.specs.Words.{live, durable}
 use Rattle.envy_memory.specs.Picture.{Picture}
 use Rattle.envy_btree.specs.Answers.{IsFull}
 use Rattle.envy_btree.specs.Depths.{insertion_pages, removal_pages}

@@ -3,7 +3,7 @@ use Rattle.std.specs.Prelude.{◌≡◌, ◌≢◌, ℕ, ◌+◌, ◌*◌, ◌%�
 use Rattle.envy_base.specs.declared.fields.Slot.TheVariants.{Active}
 use Rattle.envy_base.specs.declared.page.TheConstants.{PAGE_WORDS}
 use Rattle.envy_map.specs.Fields.{Chart, slot as slot_of}
-use Rattle.envy_layout.specs.Words.{live}
+use Rattle.envy_soundness.specs.Words.{live}
 use Rattle.envy_memory.specs.Picture.{Picture}
 use Rattle.envy_memory.specs.Sheets.{IsHeld}
 use Rattle.envy_range.specs.Ranges.{inside, outside}

@@ -1,6 +1,6 @@
 // Changes in a range of words within their open transaction, which is undone if a flash operation fails.
 ghost use Rattle.std.specs.Prelude.{◌≡◌, ◌+◌, ◌≤◌, ℕ, List, [], length, IsTrue, OnOk, None, Ok};
-ghost use Rattle.envy_base.specs.Words.{Spends};
+ghost use Rattle.envy_array.specs.Words.{Spends};
 ghost use Rattle.envy_btree.specs.Depths.{dropping_puts, insertion_pages, insertion_puts, removal_pages};
 ghost use Rattle.envy_btree.specs.Index.{IsIndex};
 ghost use Rattle.envy_btree.specs.Within.{InsertsWithin, RemovesWithin};
@@ -10,7 +10,8 @@ ghost use Rattle.envy_index_calls.specs.Ranges.{IsRange};
 
 use crate::creation::mark_blank;
 use crate::ranges::EnvyMap;
-use envy_base::{Trouble, Words};
+use envy_array::Words;
+use envy_base::Trouble;
 use envy_btree::{ChangeFault, insert_within, remove_within};
 use envy_range::Within;
 

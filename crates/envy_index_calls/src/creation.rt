@@ -1,13 +1,14 @@
 // How a map begins.
 ghost use Rattle.std.specs.Prelude.{◌≡◌, ◌+◌, ◌≤◌, length, false, IsTrue, OnOk};
 ghost use Rattle.std.specs.Option.{ForSome};
-ghost use Rattle.envy_base.specs.Words.{Fails, Keeps, OnPage, Spends, Works};
+ghost use Rattle.envy_array.specs.Words.{Fails, Keeps, OnPage, Spends, Works};
 ghost use Rattle.envy_calls.specs.Codes.{number_of};
 ghost use Rattle.envy_index_calls.specs.Ranged.{marked};
 ghost use Rattle.envy_index_calls.specs.Indexed.{Blanks, DoesCreate, EndsTry, HoldsArray, IsTried, blanked, creation_puts, made_code};
 
 use crate::words::{return_words, words_of};
-use envy_base::{Board, Trouble, Words};
+use envy_array::Words;
+use envy_base::{Board, Trouble};
 use envy_calls::Code;
 use envy_memory::Memory;
 

@@ -6,7 +6,7 @@ ghost use Rattle.envy_btree.specs.Looking.{IsShown, Looks, Powers, Sees, pairs_b
 ghost use Rattle.envy_index_calls.specs.Scanned.{IsAfter, left_to, pairs_in};
 
 use crate::pairs::EnvyPair;
-use envy_base::Words;
+use envy_array::Words;
 use envy_btree::{LookFault, Way, walk};
 
 // So many pairs of a scan are copied at a time.

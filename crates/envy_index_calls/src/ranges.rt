@@ -118,7 +118,7 @@ fn taken<B: Board>(memory: Memory<B>) -> OneTx<B>
     ensures first { HasFirst memory.chart result.begun }
     ensures held { ∥ IsHeld memory.chart result.begun ∥₁ }
 {
-    memory.known();
+    memory.invariant_holds();
     if has_first(&memory) {
         OneTx::resume(memory)
     } else {

@@ -7,7 +7,8 @@ ghost use Rattle.envy_index_calls.specs.Ranged.{Aborts, Calls, Commits, Starts, 
 ghost use Rattle.envy_index_calls.specs.Ranges.{MayHold};
 
 use crate::ranges::{Whose, give_back, lend};
-use envy_base::{Board, Off, Words};
+use envy_array::Words;
+use envy_base::{Board, Off};
 use envy_calls::Code;
 use envy_memory::Memory;
 

@@ -2,7 +2,7 @@
 ghost use Rattle.std.specs.Prelude.{◌≡◌, ◌≢◌, Some, None, Ok, Err, IsTrue, false, MatchOption, MatchResult};
 ghost use Rattle.std.specs.Option.{ForSome};
 ghost use Rattle.envy_base.specs.Shape.{version_of};
-ghost use Rattle.envy_layout.specs.Sound.{IsSound};
+ghost use Rattle.envy_soundness.specs.Sound.{IsSound};
 ghost use Rattle.envy_map.specs.Fields.{chart};
 ghost use Rattle.envy_index_calls.specs.Indexed.{Declines, HasOpenFrom, HoldsArray, IsShut, Lends, MayServe};
 ghost use Rattle.envy_memory.specs.Sheets.{sheet_of};

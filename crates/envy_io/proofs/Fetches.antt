@@ -2,7 +2,7 @@
 use Rattle.std.proofs.Common.{◌≡◌, ◌≢◌, ◌⊎◌, ℕ, ◌+◌, ◌<◌, ◌≤◌, false, IsTrue, List, [], ◌∷◌, ◌++◌, length, take, drop, Err, refl, ap, ap₂, sym, ◌∙◌, inl, inr, arith, length-append, length-drop, subst}
 use Rattle.std.proofs.lemmas.List.{append-nil, take-append-drop, take_all, length-take, nil_from_length}
 use Rattle.envy_io.specs.declared.source.Failed.{Failed as NoBytes}
-use Rattle.envy_io.specs.declared.lines.fetching.Got.TheVariants.{Whole, Short, Failed, Spent}
+use Rattle.envy_io.specs.declared.lines.read_outcome.ReadOutcome.TheVariants.{Whole, Short, Failed, Spent}
 use Rattle.envy_io.specs.Streams.{Feed, IsDry, with_front}
 use Rattle.envy_io.specs.Taking.{Taking}
 use Rattle.envy_io.specs.Fetching.{HasFront, NextBytes, Pulls}

@@ -10,3 +10,5 @@ pub mod Pieces
 pub mod ReadsLemmas
 pub mod TakesLemmas
 pub mod WritesLemmas
+pub mod Conserving
+pub mod Giving

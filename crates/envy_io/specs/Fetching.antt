@@ -1,8 +1,8 @@
 -- What a call of `next_bytes` takes and answers: so many bytes of a source, whatever lines they are.
 use Rattle.std.specs.Prelude.{◌≡◌, ◌⊎◌, ℕ, ◌+◌, ◌<◌, ◌≤◌, min, false, IsTrue, List, [], ◌++◌, length, take, drop, Result, Ok, Err}
 use Rattle.envy_io.specs.declared.source.Failed.{Failed as NoBytes}
-use Rattle.envy_io.specs.declared.lines.fetching.Got.{Got}
-use Rattle.envy_io.specs.declared.lines.fetching.Got.TheVariants.{Whole, Short, Failed, Spent}
+use Rattle.envy_io.specs.declared.lines.read_outcome.ReadOutcome.{ReadOutcome}
+use Rattle.envy_io.specs.declared.lines.read_outcome.ReadOutcome.TheVariants.{Whole, Short, Failed, Spent}
 use Rattle.envy_io.specs.Streams.{Feed, Rises, IsDry, with_front}
 use Rattle.envy_io.specs.Taking.{Taking}
 
@@ -26,7 +26,7 @@ pub record FallsShort (all into : List ℕ) (new : Taking) : Type 0 where
 
 -- What an answer says of all bytes, those held before the call and then those taken in it. Without `Whole` the
 -- slice is seen by its length alone.
-abbrev pub Fetches : Got → List ℕ → List ℕ → Taking → Feed → Feed → Type 0
+abbrev pub Fetches : ReadOutcome → List ℕ → List ℕ → Taking → Feed → Feed → Type 0
 Fetches Whole all into new from to = all ≡ into ++ new.held
 Fetches Short all into new from to = FallsShort all into new × IsTrue new.ended
 Fetches Failed all into new from to =
@@ -34,7 +34,7 @@ Fetches Failed all into new from to =
 Fetches Spent all into new from to = FallsShort all into new × (new.ended ≡ false) × (new.taken ≡ new.cap)
 
 -- One call of `next_bytes`.
-pub record NextBytes (old : Taking) (from : Feed) (answer : Got) (into : List ℕ) (new : Taking) (to : Feed) : Type 0 where
+pub record NextBytes (old : Taking) (from : Feed) (answer : ReadOutcome) (into : List ℕ) (new : Taking) (to : Feed) : Type 0 where
   -- the bytes that it took
   pub got : List ℕ
   pub draws : Draws old from got new to

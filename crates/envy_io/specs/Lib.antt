@@ -4,3 +4,5 @@ pub mod InMemory
 pub mod Lines
 pub mod Streams
 pub mod Taking
+pub mod Asked
+pub mod Holding

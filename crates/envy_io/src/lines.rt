@@ -10,9 +10,9 @@ use arrayvec::ArrayVec;
 use memchr::memchr;
 use std::marker::Model;
 
-mod fetching;
+mod read_outcome;
 
-pub use fetching::Got;
+pub use read_outcome::ReadOutcome;
 
 /// The most bytes that a line has before its newline.
 const LINE: usize = 120;

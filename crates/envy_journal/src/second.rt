@@ -9,9 +9,9 @@ use crate::head::with_gate;
 use crate::log::Log;
 use crate::operation::{CLOSED, OPEN, STOP, copy_behind};
 use envy_base::Shape;
-use envy_device::{Place, ReplaceError, SecondFailed};
+use envy_device::{ReplaceError, Replaceable, SecondFailed};
 
-impl<D: Place> Log<D> {
+impl<D: Replaceable> Log<D> {
     // Writes what the buffer holds behind the bytes of the second file.
     fn spill_second(&mut self) -> Result<(), SecondFailed>
         requires gathers { Gathers D.second self.old }

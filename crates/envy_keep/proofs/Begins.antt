@@ -1,6 +1,6 @@
 -- A kept memory before its first line.
 use Rattle.std.proofs.Common.{◌<◌, [], refl}
-use Rattle.envy_base.specs.Array.{Array}
+use Rattle.envy_array.specs.Array.{Array}
 use Rattle.envy_begun.specs.Beginning.{HasBegun}
 use Rattle.envy_memory.specs.Picture.{Picture}
 use Rattle.envy_policy.specs.declared.setup.Setup.{Setup}

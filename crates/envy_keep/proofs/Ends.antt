@@ -3,22 +3,23 @@ use Rattle.std.proofs.Common.{◌≡◌, ◌⊎◌, inl, inr, ℕ, ◌≤◌, fa
 use Rattle.std.specs.Prelude.{IsTrue, Ok, Err, if◌then◌else◌}
 use Rattle.std.proofs.Math.Logic.{∥∥₁_map}
 use Rattle.std.proofs.lemmas.Bool.{false≢true}
-use Rattle.envy_base.specs.Array.{Array, undone}
+use Rattle.envy_base.specs.State.{SyncNote}
+use Rattle.envy_array.specs.Array.{Array, undone}
 use Rattle.envy_base.specs.declared.board.Off.{Off}
 use Rattle.envy_base.specs.declared.shape.Shape.{Shape}
 use Rattle.envy_begun.proofs.Opening.{IsGood, opens-as}
 use Rattle.envy_begun.specs.Opens.{OpensAs}
-use Rattle.envy_disk.specs.Disk.{SyncsChart, with_numbers}
+use Rattle.envy_disk.specs.Disk.{SyncsChart, with_sync}
 use Rattle.envy_journal.specs.Head.{StandsFor}
 use Rattle.envy_journal.specs.Reading.{operations}
-use Rattle.envy_synced.specs.Disk.{IsLast, IsSynced, Reopens}
-use Rattle.envy_layout.specs.Stands.{Holds, Stands}
-use Rattle.envy_layout.specs.Words.{durable}
+use Rattle.envy_synced.specs.Disk.{CrashLeaves, IsLast, IsSynced, Reopens}
+use Rattle.envy_meaning.specs.Stands.{Holds, Stands}
+use Rattle.envy_soundness.specs.Words.{durable}
 use Rattle.envy_map.specs.Fields.{Chart, failed}
 use Rattle.envy_memory.specs.Picture.{Picture}
-use Rattle.envy_keep_trace.specs.declared.keep_reply.KeepReply.{KeepReply}
-use Rattle.envy_serve.specs.declared.serving.End.{End}
-use Rattle.envy_serve.specs.declared.serving.End.TheVariants.{Done as EndDone, ReadFault, WriteFault, FlushFault, Refused, Dead as EndDead, TooLong}
+use Rattle.envy_trace.specs.declared.keep_reply.KeepReply.{KeepReply}
+use Rattle.envy_serve.specs.declared.server.End.{End}
+use Rattle.envy_serve.specs.declared.server.End.TheVariants.{Done as EndDone, ReadFault, WriteFault, FlushFault, Refused, Dead as EndDead, TooLong}
 use Rattle.envy_serve.specs.Ends.{Ends, HasServed, Serves}
 use Rattle.envy_serve.specs.Streams.{Streams}
 use Rattle.envy_serve.proofs.Advancing.{Serves-as}
@@ -32,7 +33,7 @@ use Rattle.envy_keep.specs.Turns.{KeepRun, KeepTurn, keep_grammar, says_synced, 
 
 -- the last sync, done: the end is status 0
 pub concludes-ok : (old new : Picture) → IsSynced new.chart → SyncsChart {T = Unit {0}} old.chart (Ok tt) new.chart → new ≡ record old { chart = new.chart } → Concludes EndDone 0 old new
-concludes-ok old new good (on, plans, given, is) kept = inl (refl, good, plans, given, kept ∙ ap (λ (c : Chart). record old { chart = c }) is)
+concludes-ok old new good (on, sync, is) kept = inl (refl, good, plans, given, kept ∙ ap (λ (c : Chart). record old { chart = c }) is)
 
 -- the last sync, failed: power is off, and the end is status 6
 pub concludes-err : (old new : Picture) (off : Off) → IsTrue old.chart.on → SyncsChart {T = Unit {0}} old.chart (Err off) new.chart → new ≡ record old { chart = new.chart } → Concludes EndDone 6 old new
@@ -45,7 +46,7 @@ done-on start p end turns s is = on_since start p turns (subst (λ (e : End). Ha
 
 -- power is off at status 6
 pub off-at : (start : Start) (old new : Picture) (end : End) (status : ℕ) (turns : List KeepTurn) → HasServed end (KeptSince start old) (LostSince start old) turns → Concludes end status old new → status ≡ 6 → new.chart.on ≡ false
-off-at start old new EndDone status turns t (inl (is, synced, plans, given, same)) six = let no : 0 ≡ 6 = sym is ∙ six in absurd (omega arith)
+off-at start old new EndDone status turns t (inl (is, synced, sync, same)) six = let no : 0 ≡ 6 = sym is ∙ six in absurd (omega arith)
 off-at start old new EndDone status turns t (inr (is, same)) six = ap (λ (p : Picture). p.chart.on) same
 off-at start old new EndDead status [] d (is, same) six = absurd d
 off-at start old new EndDead status (turn ∷ earlier) d (is, same) six = ap (λ (p : Picture). p.chart.on) same ∙ LostIn.off d
@@ -64,12 +65,12 @@ opens-so was sh words file good shape is opens =
 run-as : (a b : Shape) (first m : Array) (turns : List KeepTurn) → a ≡ b → KeepRun a.entries first turns m → KeepRun b.entries first turns m
 run-as a b first m turns same run = subst (λ (sh : Shape). KeepRun sh.entries first turns m) same run
 
-module _ (left : ℕ → List ℕ → Type 0) (now : ℕ) (new : Picture) (last : (was : Chart) → IsSynced was → IsLast was new.chart → (file : List ℕ) → left was.plans file → ∥ Reopens was file ⊎ ((new.chart.on ≡ false) × Reopens new.chart file) ∥₁) (reads : (was : Chart) (synced : IsSynced was) → IsLast was new.chart → (file : List ℕ) → left was.plans file → ∥ StandsFor was.shape (operations (IsSynced.bytes synced)) file ⊎ ((new.chart.on ≡ false) × Reopens new.chart file) ∥₁) (time : new.chart.plans ≤ now) where
+module _ (left : ℕ → List ℕ → Type 0) (now : ℕ) (new : Picture) (crash : CrashLeaves left now new.chart) where
   survives : (sh : Shape) (was : Chart) (words : List ℕ) (Later : List ℕ → Type 0) → IsSynced was → IsLast was new.chart → IsGood was → durable was ≡ words → new.chart.shape ≡ sh → ((file : List ℕ) → new.chart.on ≡ false → Reopens new.chart file → (other : List ℕ) × Later other × OpensAs sh other file) → Survives sh left now words Later
   survives sh was words Later synced l good is shape later = record {
-    moment = was.plans;
-    before = let same = l.moment in omega (arith, time, same);
-    opens = λ file since. ∥∥₁_map (last was synced l file since) (λ e. either file e);
+    moment = was.notes.last.moment;
+    before = let same = ap (λ (y : SyncNote). y.moment) l.sync in omega (arith, crash.time, same);
+    opens = λ file since. ∥∥₁_map (crash.last was synced l file since) (λ e. either file e);
   }
     where
       either : (file : List ℕ) → Reopens was file ⊎ ((new.chart.on ≡ false) × Reopens new.chart file) → OpensAs sh words file ⊎ ((other : List ℕ) × Later other × OpensAs sh other file)
@@ -77,7 +78,7 @@ module _ (left : ℕ → List ℕ → Type 0) (now : ℕ) (new : Picture) (last 
       either file (inr (off, opens)) = inr (later file off opens)
 
   -- a file is such a one, or reopens as the board of now, which is a later one
-  leaves : (was : Chart) (Such : List ℕ → Type 0) (LaterBoard : Chart → Type 0) → ((file : List ℕ) → left was.plans file → ∥ Such file ⊎ ((new.chart.on ≡ false) × Reopens new.chart file) ∥₁) → ((file : List ℕ) → new.chart.on ≡ false → Reopens new.chart file → (other : Chart) × LaterBoard other × Reopens other file) → LeavesSince left was.plans Such LaterBoard
+  leaves : (was : Chart) (Such : List ℕ → Type 0) (LaterBoard : Chart → Type 0) → ((file : List ℕ) → left was.notes.last.moment file → ∥ Such file ⊎ ((new.chart.on ≡ false) × Reopens new.chart file) ∥₁) → ((file : List ℕ) → new.chart.on ≡ false → Reopens new.chart file → (other : Chart) × LaterBoard other × Reopens other file) → LeavesSince left was.notes.last.moment Such LaterBoard
   leaves was Such LaterBoard each later file since = ∥∥₁_map (each file since) either
     where
       either : Such file ⊎ ((new.chart.on ≡ false) × Reopens new.chart file) → Such file ⊎ ((other : Chart) × LaterBoard other × Reopens other file)
@@ -94,9 +95,9 @@ module _ (left : ℕ → List ℕ → Type 0) (now : ℕ) (new : Picture) (last 
     survives = survives start.memory.chart.shape s.was (undone s.array) Later s.synced l (record { magic = s.magic; version = s.version; sound = s.sound }) s.words shape later;
     board = s.was;
     on_disk = s.on_disk;
-    reopens = leaves s.was (Reopens s.was) LaterBoard (λ file since. last s.was s.synced l file since) board_later;
+    reopens = leaves s.was (Reopens s.was) LaterBoard (λ file since. crash.last s.was s.synced l file since) board_later;
     synced = s.synced;
-    reads = leaves s.was (StandsFor s.was.shape (operations (IsSynced.bytes s.synced))) LaterBoard (λ file since. reads s.was s.synced l file since) board_later;
+    reads = leaves s.was (StandsFor s.was.shape (operations s.was.notes.last.bytes)) LaterBoard (λ file since. crash.reads s.was l file since) board_later;
   }
 
   -- power is on
@@ -125,32 +126,32 @@ module _ (left : ℕ → List ℕ → Type 0) (now : ℕ) (new : Picture) (last 
       }
 
   -- the last sync succeeded
-  whole : (start : Start) (old : Picture) (turns : List KeepTurn) (t : KeptSince start old turns) (plans given : ℕ) → IsSynced new.chart → new ≡ record old { chart = with_numbers old.chart plans given old.chart.plans old.chart.given } → Survives start.memory.chart.shape left now (undone (KeptSince.array t)) NoneLater
-  whole start old turns t plans given synced same =
+  whole : (start : Start) (old : Picture) (turns : List KeepTurn) (t : KeptSince start old turns) (sync : SyncNote) → IsSynced new.chart → new ≡ record old { chart = with_sync old.chart sync } → Survives start.memory.chart.shape left now (undone (KeptSince.array t)) NoneLater
+  whole start old turns t sync synced same =
       let stood = KeptSince.stands t in
-      survives start.memory.chart.shape new.chart (undone (KeptSince.array t)) NoneLater synced (record { shape = refl; moment = refl; bytes = refl })
+      survives start.memory.chart.shape new.chart (undone (KeptSince.array t)) NoneLater synced (record { shape = refl; sync = refl })
       (subst (λ (p : Picture). IsGood p.chart) (sym same) (record { magic = Holds.magic stood.holds; version = Holds.version stood.holds; sound = Holds.sound stood.holds }))
       (ap (λ (p : Picture). durable p.chart) same ∙ Holds.durable stood.holds)
       (ap (λ (p : Picture). p.chart.shape) same ∙ KeptSince.shape t)
       (λ file off opens. absurd (false≢true (sym off ∙ ap (λ (p : Picture). p.chart.on) same ∙ Stands.on stood)))
 
   -- and the file reopens as the board of before, since a sync changes nothing else
-  whole-board : (start : Start) (old : Picture) (turns : List KeepTurn) (t : KeptSince start old turns) (plans given : ℕ) → IsSynced new.chart → new ≡ record old { chart = with_numbers old.chart plans given old.chart.plans old.chart.given } → LeavesSince left new.chart.plans (Reopens old.chart) NoBoardLater
-  whole-board start old turns t plans given synced same file since = ∥∥₁_map (last new.chart synced (record { shape = refl; moment = refl; bytes = refl }) file since) either
+  whole-board : (start : Start) (old : Picture) (turns : List KeepTurn) (t : KeptSince start old turns) (sync : SyncNote) → IsSynced new.chart → new ≡ record old { chart = with_sync old.chart sync } → LeavesSince left new.chart.notes.last.moment (Reopens old.chart) NoBoardLater
+  whole-board start old turns t sync synced same file since = ∥∥₁_map (crash.last new.chart synced (record { shape = refl; sync = refl }) file since) either
     where
       either : Reopens new.chart file ⊎ ((new.chart.on ≡ false) × Reopens new.chart file) → Reopens old.chart file ⊎ ((other : Chart) × NoBoardLater other × Reopens other file)
       either (inl opens) = let r = subst (λ (p : Picture). Reopens p.chart file) same opens in inl (record { head = Reopens.head r; fields = Reopens.fields r; flash = Reopens.flash r; ends = Reopens.ends r })
       either (inr (off, opens)) = absurd (false≢true (sym off ∙ ap (λ (p : Picture). p.chart.on) same ∙ Stands.on (KeptSince.stands t)))
 
-  whole-ends : (start : Start) (old : Picture) (turns : List KeepTurn) (t : KeptSince start old turns) (plans given : ℕ) → IsSynced new.chart → new ≡ record old { chart = with_numbers old.chart plans given old.chart.plans old.chart.given } → SurvivesWhole start.array start.memory start.memory.chart.shape turns left now
+  whole-ends : (start : Start) (old : Picture) (turns : List KeepTurn) (t : KeptSince start old turns) (sync : SyncNote) → IsSynced new.chart → new ≡ record old { chart = with_sync old.chart sync } → SurvivesWhole start.array start.memory start.memory.chart.shape turns left now
   unfolding survives whole
-  whole-ends start old turns t plans given synced same = record {
+  whole-ends start old turns t sync synced same = record {
     array = KeptSince.array t;
     run = run-as old.chart.shape start.memory.chart.shape start.array (KeptSince.array t) turns (KeptSince.shape t) (KeptSince.run t);
-    survives = whole start old turns t plans given synced same;
+    survives = whole start old turns t sync synced same;
     last = old;
     plays = KeptSince.plays t;
-    reopens = whole-board start old turns t plans given synced same;
+    reopens = whole-board start old turns t sync synced same;
   }
 
   -- the last sync failed
@@ -158,12 +159,12 @@ module _ (left : ℕ → List ℕ → Type 0) (now : ℕ) (new : Picture) (last 
   unsynced start old turns same t =
       let stood = t.stands in
       let l = IsSaved.last t.saved in
-      saved-survives start old.chart turns (IsWhole start.array start.memory.chart.shape turns) (HasBoard start.memory turns) t.saved (subst (λ (p : Picture). IsLast (IsSaved.was t.saved) p.chart) (sym same) (record { shape = l.shape; moment = l.moment; bytes = l.bytes })) t.shape (ap (λ (p : Picture). p.chart.shape) same ∙ t.shape)
+      saved-survives start old.chart turns (IsWhole start.array start.memory.chart.shape turns) (HasBoard start.memory turns) t.saved (subst (λ (p : Picture). IsLast (IsSaved.was t.saved) p.chart) (sym same) (record { shape = l.shape; sync = l.sync })) t.shape (ap (λ (p : Picture). p.chart.shape) same ∙ t.shape)
       (λ file off opens. (undone t.array, (t.array, run-as old.chart.shape start.memory.chart.shape start.array t.array turns t.shape t.run, refl), opens-so (failed old.chart) start.memory.chart.shape (undone t.array) file (record { magic = Holds.magic stood.holds; version = Holds.version stood.holds; sound = Holds.sound stood.holds }) t.shape (Holds.durable stood.holds) (subst (λ (p : Picture). Reopens p.chart file) same opens)))
       (λ file off opens. let r = subst (λ (p : Picture). Reopens p.chart file) same opens in (old.chart, (old, t.plays, refl), record { head = Reopens.head r; fields = Reopens.fields r; flash = Reopens.flash r; ends = Reopens.ends r }))
 
   ends-kept : (start : Start) (old : Picture) (end : End) (status : ℕ) (turns : List KeepTurn) → HasServed end (KeptSince start old) (LostSince start old) turns → Concludes end status old new → EndsKept end status start.array start.memory start.memory.chart.shape turns left now
-  ends-kept start old EndDone status turns t (inl (is, synced, plans, given, same)) = inl (is, whole-ends start old turns t plans given synced same)
+  ends-kept start old EndDone status turns t (inl (is, synced, sync, same)) = inl (is, whole-ends start old turns t sync synced same)
   ends-kept start old EndDone status turns t (inr (is, same)) = inr (is, unsynced start old turns same t)
   ends-kept start old EndDead status [] d (is, same) = absurd d
   ends-kept start old EndDead status (turn ∷ earlier) d (is, same) = (is, dark start old turn earlier same d)

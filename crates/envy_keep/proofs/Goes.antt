@@ -2,32 +2,33 @@
 use Rattle.std.proofs.Common.{◌≡◌, ◌⊎◌, inl, inr, ℕ, false, List, [], ◌∷◌, ◌++◌, take, refl, sym, ◌∙◌, ap, subst, arith, append-nil}
 use Rattle.std.specs.Prelude.{IsTrue, Result, Ok, Err}
 use Rattle.std.proofs.lemmas.Bool.{false≢true}
-use Rattle.envy_base.specs.Array.{Array, restarted}
+use Rattle.envy_base.specs.State.{SyncNote}
+use Rattle.envy_array.specs.Array.{Array, restarted}
 use Rattle.envy_base.specs.declared.board.Off.{Off}
 use Rattle.envy_base.specs.declared.shape.Shape.{Shape}
 use Rattle.envy_begun.proofs.Begins.{told-stands}
-use Rattle.envy_disk.specs.Disk.{SyncsChart, with_numbers}
-use Rattle.envy_flush.specs.Counts.{Tallies}
+use Rattle.envy_disk.specs.Disk.{SyncsChart, with_sync}
+use Rattle.envy_engine.specs.Counts.{Tallies}
 use Rattle.envy_io.specs.declared.source.Failed.{Failed}
 use Rattle.envy_io.specs.Lines.{newline}
 use Rattle.envy_io.specs.Streams.{Drain, WritesAll, with_end}
 use Rattle.envy_io.proofs.WritesLemmas.{with_end-nil}
 use Rattle.envy_synced.specs.Disk.{IsLast, IsSynced}
-use Rattle.envy_layout.specs.Stands.{Holds, Stands, IsLost as LostOn}
+use Rattle.envy_meaning.specs.Stands.{Holds, Stands, IsLost as LostOn}
 use Rattle.envy_map.specs.Fields.{Chart, failed}
 use Rattle.envy_memory.specs.Picture.{IsMemory, Picture}
 use Rattle.envy_trace.specs.declared.line.Line.{Line}
 use Rattle.envy_trace.specs.declared.line.Line.TheVariants.{Empty, Load, Look, Store, Begin, Put, Commit, Abort, Tick, Power, Cut, Bad, Stat}
 use Rattle.envy_trace.specs.declared.reply.Reply.{Reply}
 use Rattle.envy_trace.specs.declared.reply.Reply.TheVariants.{Lost}
-use Rattle.envy_keep_trace.specs.declared.keep_line.KeepLine.{KeepLine}
-use Rattle.envy_keep_trace.specs.declared.keep_line.KeepLine.TheVariants.{Trace, Sync}
-use Rattle.envy_keep_trace.specs.declared.keep_reply.KeepReply.{KeepReply}
-use Rattle.envy_keep_trace.specs.declared.keep_reply.KeepReply.TheVariants.{Trace as TraceReply, Synced}
-use Rattle.envy_keep_trace.specs.Keep.{IsKeepLine, keep_bytes}
-use Rattle.envy_saved.proofs.Reopened.{last_stays}
+use Rattle.envy_trace.specs.declared.keep_line.KeepLine.{KeepLine}
+use Rattle.envy_trace.specs.declared.keep_line.KeepLine.TheVariants.{Trace, Sync}
+use Rattle.envy_trace.specs.declared.keep_reply.KeepReply.{KeepReply}
+use Rattle.envy_trace.specs.declared.keep_reply.KeepReply.TheVariants.{Trace as TraceReply, Synced}
+use Rattle.envy_trace.specs.Keep.{IsKeepLine, keep_bytes}
+use Rattle.envy_synced.proofs.Reopened.{last_stays}
 use Rattle.envy_serve.specs.Obeys.{Obeys}
-use Rattle.envy_serve.specs.declared.service.Obeyed.TheVariants.{Done, WriteFault, Dead}
+use Rattle.envy_serve.specs.declared.service.LineOutcome.TheVariants.{Done, WriteFault, Dead}
 use Rattle.envy_serve.specs.Streams.{Written, FrontWritten}
 use Rattle.envy_serve.specs.Turns.{texts}
 use Rattle.envy_run.specs.Answers.{AnswersTo, LosesIn, line_beside}
@@ -38,8 +39,8 @@ use Rattle.envy_run.specs.Tells.{Telling}
 use Rattle.envy_run.proofs.Hitting.{telling-more}
 use Rattle.envy_run.proofs.Noting.{notes-empty}
 use Rattle.envy_run.proofs.Obeying.{answered}
-use Rattle.envy_run.specs.declared.answers.Beside.{Beside}
-use Rattle.envy_run.specs.declared.answers.Beside.TheVariants.{Nothing, Power as OfPower, Plan as OfPlan}
+use Rattle.envy_run.specs.declared.answers.BoardRequest.{BoardRequest}
+use Rattle.envy_run.specs.declared.answers.BoardRequest.TheVariants.{Nothing, Power as OfPower, PlannedFault as OfPlan}
 use Rattle.envy_base.specs.declared.faults.PlannedFault.TheVariants.{Cut as PlanCut, Bad as PlanBad}
 use Rattle.envy_keep.specs.Answers.{AnswersKeep, SyncsTo, TraceAnswers}
 use Rattle.envy_keep.specs.Playing.{ShowsMemory}
@@ -50,7 +51,7 @@ use Rattle.envy_keep.specs.Turns.{KeepRun, KeepTurn, keep_grammar, trace_turns}
 
 -- a sync that is done is answered `synced`
 pub syncs-ok : (old new : Picture) → IsSynced new.chart → SyncsChart {T = Unit {0}} old.chart (Ok tt) new.chart → new ≡ record old { chart = new.chart } → SyncsTo Synced old new
-syncs-ok old new good (on, plans, given, is) kept = inl (refl, good, plans, given, kept ∙ ap (λ (c : Chart). record old { chart = c }) is)
+syncs-ok old new good (on, sync, is) kept = inl (refl, good, plans, given, kept ∙ ap (λ (c : Chart). record old { chart = c }) is)
 
 -- a sync that fails is answered `lost`
 pub syncs-err : (old new : Picture) (off : Off) → IsTrue old.chart.on → SyncsChart {T = Unit {0}} old.chart (Err off) new.chart → new ≡ record old { chart = new.chart } → SyncsTo (TraceReply Lost) old new
@@ -151,28 +152,28 @@ module _ (start : Start) (old new : Picture) (turns : List KeepTurn) (line : Lin
 -- a sync joins the turns
 
 -- a sync that is done saves all turns so far
-sync-more : (start : Start) (old : Picture) (turns : List KeepTurn) (t : KeptSince start old turns) (plans given : ℕ) → IsSynced (with_numbers old.chart plans given old.chart.plans old.chart.given) → ShowsMemory (record old { chart = with_numbers old.chart plans given old.chart.plans old.chart.given }) → KeptSince start (record old { chart = with_numbers old.chart plans given old.chart.plans old.chart.given }) (record { line = Sync; replies = Synced ∷ [] } ∷ turns)
-sync-more start old turns t plans given good shows =
+sync-more : (start : Start) (old : Picture) (turns : List KeepTurn) (t : KeptSince start old turns) (sync : SyncNote) → IsSynced (with_sync old.chart sync) → ShowsMemory (record old { chart = with_sync old.chart sync }) → KeptSince start (record old { chart = with_sync old.chart sync }) (record { line = Sync; replies = Synced ∷ [] } ∷ turns)
+sync-more start old turns t sync good shows =
     let stood = t.stands in
     let tallies = Telling.tallies t.telling in
     record {
       array = t.array;
       run = (t.array, t.run, (refl, refl));
-      stands = told-stands old.chart plans given old.chart.plans old.chart.given t.array stood;
+      stands = told-stands old.chart sync t.array stood;
       telling = record { can = Telling.can t.telling; last = Telling.last t.telling; tallies = record { programs = Tallies.programs tallies; erases = Tallies.erases tallies } };
       plays = (old, t.plays, (refl, (plans, given, refl), shows));
       shape = t.shape;
       saved = record {
-        was = with_numbers old.chart plans given old.chart.plans old.chart.given;
+        was = with_sync old.chart sync;
         synced = good;
-        last = record { shape = refl; moment = refl; bytes = refl };
+        last = record { shape = refl; sync = refl };
         magic = Holds.magic stood.holds;
         version = Holds.version stood.holds;
         sound = Holds.sound stood.holds;
         array = t.array;
         run = (t.array, t.run, (refl, refl));
         words = Holds.durable stood.holds;
-        on_disk = (record old { chart = with_numbers old.chart plans given old.chart.plans old.chart.given }, (old, t.plays, (refl, (plans, given, refl), shows)), refl);
+        on_disk = (record old { chart = with_sync old.chart sync }, (old, t.plays, (refl, (plans, given, refl), shows)), refl);
       };
     }
 
@@ -193,7 +194,7 @@ sync-lost start old turns t =
       plays = t.plays;
       below = refl;
       shape = t.shape;
-      saved = saved-on start old.chart (failed old.chart) turns refl (λ was last. record { shape = last.shape; moment = last.moment; bytes = last.bytes }) t.saved;
+      saved = saved-on start old.chart (failed old.chart) turns refl (λ was last. record { shape = last.shape; sync = last.sync }) t.saved;
     }
 
 -- a line with its reply, power staying on or not
@@ -204,7 +205,7 @@ more start old new turns (Trace line) reply t call (said, is, a) shows =
     subst (λ (r : KeepReply). KeptSince start new (record { line = Trace line; replies = r ∷ [] } ∷ turns)) (sym is) (trace-more start old new turns line said t call a shows)
 more start old new turns Sync reply t call (inl (is, good, plans, given, same)) shows =
     subst (λ (r : KeepReply). KeptSince start new (record { line = Sync; replies = r ∷ [] } ∷ turns)) (sym is)
-    (subst (λ (p : Picture). KeptSince start p (record { line = Sync; replies = Synced ∷ [] } ∷ turns)) (sym same) (sync-more start old turns t plans given (subst (λ (p : Picture). IsSynced p.chart) same good) (subst (λ (p : Picture). ShowsMemory p) same shows)))
+    (subst (λ (p : Picture). KeptSince start p (record { line = Sync; replies = Synced ∷ [] } ∷ turns)) (sym same) (sync-more start old turns t sync (subst (λ (p : Picture). IsSynced p.chart) same good) (subst (λ (p : Picture). ShowsMemory p) same shows)))
 more start old new turns Sync reply t call (inr (is, same)) shows = absurd (false≢true (sym (ap (λ (p : Picture). p.chart.on) same) ∙ shows.0))
 
 -- a line in which power failed
@@ -266,7 +267,7 @@ pub obeys-empty : (start : Start) (p : Picture) (turns : List KeepTurn) (line : 
 obeys-empty start p turns line sink is t = subst (λ (l : KeepLine). Obeys Done keep_grammar (KeptSince start p) (LostSince start p) turns l sink sink) (sym is) ([], still start p turns t, record { whole = sym (with_end-nil sink.written); faults = omega arith })
 
 -- a line that asks for something beside the memory's calls is empty: the grammar has no other
-pub empty-beside : (line : KeepLine) (other : Beside) → IsKeepLine line → line ≡ Trace (line_beside other) → line ≡ Trace Empty
+pub empty-beside : (line : KeepLine) (other : BoardRequest) → IsKeepLine line → line ≡ Trace (line_beside other) → line ≡ Trace Empty
 empty-beside line Nothing ranges is = is
 empty-beside line OfPower ranges is = absurd (subst IsKeepLine is ranges)
 empty-beside line (OfPlan (PlanCut k g)) ranges is = absurd (subst IsKeepLine is ranges)

@@ -2,19 +2,19 @@
 use Rattle.std.proofs.Common.{◌≡◌, ℕ, Bool, false, List, refl, sym, ◌∙◌, ap, subst, arith}
 use Rattle.std.specs.Prelude.{IsTrue, Ok}
 use Rattle.envy_args.specs.declared.keep.KeepOptions.{KeepOptions}
-use Rattle.envy_base.specs.Array.{Array}
+use Rattle.envy_array.specs.Array.{Array}
 use Rattle.envy_base.specs.declared.shape.Shape.{Shape}
 use Rattle.envy_begun.specs.Beginning.{HasBegun, HasOperationsOf, HasStopped}
 use Rattle.envy_begun.specs.Left.{Leaves}
 use Rattle.envy_begun.specs.Plans.{BeginsAs, BeginsOn, ComesLater, Plans}
 use Rattle.envy_begun.specs.Unserved.{Causes, held_for, place_for, status_for, why_for}
-use Rattle.envy_begun.specs.declared.planning.Holding.{Holding}
-use Rattle.envy_begun.specs.declared.planning.Holding.TheVariants.{Written}
-use Rattle.envy_begun.specs.declared.unbegun.Unbegun.{Unbegun}
+use Rattle.envy_begun.specs.declared.file_contents.FileContents.{FileContents}
+use Rattle.envy_begun.specs.declared.file_contents.FileContents.TheVariants.{Written}
+use Rattle.envy_begun.specs.declared.open_fault.OpenFault.{OpenFault}
 use Rattle.envy_begun.proofs.Caused.{stopped-unserved}
 use Rattle.envy_device.specs.Device.{Only}
 use Rattle.envy_io.specs.Streams.{Drain, Feed}
-use Rattle.envy_layout.specs.Stands.{Stands}
+use Rattle.envy_meaning.specs.Stands.{Stands}
 use Rattle.envy_memory.specs.Picture.{IsMemory, Picture}
 use Rattle.envy_policy.specs.Setup.{checked}
 use Rattle.envy_policy.specs.declared.setup.Setup.{Setup}
@@ -24,7 +24,7 @@ use Rattle.envy_keep.specs.Ending.{KeepsServed}
 use Rattle.envy_keep.specs.Keeping.{IsServed, IsUnserved, LeavesUnserved, Told, told}
 
 -- what a trace over the memory in a file left, said of the file
-pub served-as : (options : KeepOptions) (file : List ℕ) (setup : Setup) (holding : Holding) (array : Array) (p : Picture) (status why lines taken place : ℕ) (left : ℕ → List ℕ → Type 0) (now : ℕ) (io : Streams)
+pub served-as : (options : KeepOptions) (file : List ℕ) (setup : Setup) (holding : FileContents) (array : Array) (p : Picture) (status why lines taken place : ℕ) (left : ℕ → List ℕ → Type 0) (now : ℕ) (io : Streams)
     → Plans holding options file setup → checked setup ≡ Ok tt → BeginsAs holding file setup array → HasBegun setup array p → BeginsOn holding file p.chart → IsMemory p.chart p.parts p.owned p.limit p.mark
     → (holding ≡ Written → IsTrue options.compact → IsCompact p.chart) → (holding ≡ Written → options.compact ≡ false → HasOperationsOf file p.chart)
     → KeepsServed array p p.chart.shape status why lines taken left now io → IsServed options file (told status why lines taken place) left now io
@@ -54,7 +54,7 @@ as-it-was seen may_leave left_since moment device file is durable only = record 
   each = λ c left. ∣ durable c (only c left) ∙ is ∣₁;
 }
 
-module _ {D : Type 0} (seen : D → List ℕ) (has_failed : D → Bool) (left_since : D → ℕ → List ℕ → Type 0) (moment : D → ℕ) (options : KeepOptions) (file : List ℕ) (old device new : D) (unbegun : Unbegun) where
+module _ {D : Type 0} (seen : D → List ℕ) (has_failed : D → Bool) (left_since : D → ℕ → List ℕ → Type 0) (moment : D → ℕ) (options : KeepOptions) (file : List ℕ) (old device new : D) (unbegun : OpenFault) where
   pub unserved-as : (end : Told) (feed : Feed) (drain : Drain) → end ≡ told (status_for unbegun) (why_for unbegun) 0 0 (place_for unbegun) → new ≡ device → Causes seen has_failed options file old device unbegun → ComesLater options file unbegun
       → LeavesUnserved left_since moment options file unbegun device
       → IsUnserved seen has_failed left_since moment options file old new end (record { from = feed; feed = feed; to = drain; sink = drain })
@@ -69,7 +69,7 @@ module _ {D : Type 0} (seen : D → List ℕ) (has_failed : D → Bool) (left_si
   }
 
 -- status 6 of a file that was not served comes of its device
-pub unserved-stopped : {D : Type 0} (seen : D → List ℕ) (has_failed : D → Bool) (options : KeepOptions) (file : List ℕ) (old device new : D) (unbegun : Unbegun) (status why lines taken place held : ℕ)
+pub unserved-stopped : {D : Type 0} (seen : D → List ℕ) (has_failed : D → Bool) (options : KeepOptions) (file : List ℕ) (old device new : D) (unbegun : OpenFault) (status why lines taken place held : ℕ)
     → told status why lines taken place ≡ told (status_for unbegun) (why_for unbegun) 0 0 (place_for unbegun) → new ≡ device → held ≡ held_for unbegun → Causes seen has_failed options file old device unbegun
     → status ≡ 6 → HasStopped seen has_failed held new
 unserved-stopped {D} seen has_failed options file old device new unbegun status why lines taken place held says same held_is causes six =

@@ -1,18 +1,19 @@
 -- What holds at the end of a kept memory's trace, and which array each crash of the machine leaves.
 use Rattle.std.specs.Prelude.{◌≡◌, ◌⊎◌, ℕ, ◌≤◌, List, [], ◌∷◌}
-use Rattle.envy_base.specs.Array.{Array, undone}
+use Rattle.envy_base.specs.State.{SyncNote}
+use Rattle.envy_array.specs.Array.{Array, undone}
 use Rattle.envy_base.specs.declared.shape.Shape.{Shape}
 use Rattle.envy_begun.specs.Opens.{OpensAs}
-use Rattle.envy_disk.specs.Disk.{with_numbers}
+use Rattle.envy_disk.specs.Disk.{with_sync}
 use Rattle.envy_journal.specs.Head.{StandsFor}
 use Rattle.envy_journal.specs.Reading.{operations}
 use Rattle.envy_synced.specs.Disk.{IsSynced, Reopens}
 use Rattle.envy_map.specs.Fields.{Chart, failed}
 use Rattle.envy_memory.specs.Picture.{Picture}
 use Rattle.envy_trace.specs.declared.reply.Reply.TheVariants.{Lost}
-use Rattle.envy_keep_trace.specs.declared.keep_reply.KeepReply.TheVariants.{Trace as TraceReply}
-use Rattle.envy_serve.specs.declared.serving.End.{End}
-use Rattle.envy_serve.specs.declared.serving.End.TheVariants.{Done as EndDone, Dead as EndDead}
+use Rattle.envy_trace.specs.declared.keep_reply.KeepReply.TheVariants.{Trace as TraceReply}
+use Rattle.envy_serve.specs.declared.server.End.{End}
+use Rattle.envy_serve.specs.declared.server.End.TheVariants.{Done as EndDone, Dead as EndDead}
 use Rattle.envy_serve.specs.Ends.{Serves}
 use Rattle.envy_serve.specs.Streams.{Streams}
 use Rattle.envy_run.specs.Outcome.{status_of, why_of}
@@ -47,7 +48,7 @@ pub record SurvivesSynced (first : Array) (memory : Picture) (sh : Shape) (turns
   pub on_disk : IsOnDisk memory (synced_turns turns) board
   pub reopens : LeavesSince left_since survives.moment (Reopens board) LaterBoard
   pub synced : IsSynced board
-  pub reads : LeavesSince left_since survives.moment (StandsFor board.shape (operations synced.bytes)) LaterBoard
+  pub reads : LeavesSince left_since survives.moment (StandsFor board.shape (operations board.notes.last.bytes)) LaterBoard
 
 -- the same of all turns: behind the last of them a sync succeeded
 pub record SurvivesWhole (first : Array) (memory : Picture) (sh : Shape) (turns : List KeepTurn) (left_since : ℕ → List ℕ → Type 0) (now : ℕ) : Type 0 where
@@ -98,6 +99,6 @@ pub record KeepsServed (first : Array) (memory : Picture) (sh : Shape) (status w
 -- the status at an end, and one sync more where all lines were done
 abbrev pub Concludes : End → ℕ → Picture → Picture → Type 0
 Concludes EndDone status old new =
-    ((status ≡ 0) × IsSynced new.chart × (plans given : ℕ) × (new ≡ record old { chart = with_numbers old.chart plans given old.chart.plans old.chart.given }))
+    ((status ≡ 0) × IsSynced new.chart × (sync : SyncNote) × (new ≡ record old { chart = with_sync old.chart sync }))
     ⊎ ((status ≡ 6) × (new ≡ record old { chart = failed old.chart }))
 Concludes end status old new = (status ≡ status_of end) × (new ≡ old)

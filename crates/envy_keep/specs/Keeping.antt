@@ -1,15 +1,15 @@
 -- What is served of the memory in a file.
 use Rattle.std.specs.Prelude.{◌≡◌, ◌⊎◌, ℕ, Bool, false, IsTrue, List, Ok}
 use Rattle.envy_args.specs.declared.keep.KeepOptions.{KeepOptions}
-use Rattle.envy_base.specs.Array.{Array}
-use Rattle.envy_begun.specs.declared.planning.Holding.{Holding}
-use Rattle.envy_begun.specs.declared.planning.Holding.TheVariants.{Written}
-use Rattle.envy_begun.specs.declared.unbegun.Unbegun.{Unbegun}
+use Rattle.envy_array.specs.Array.{Array}
+use Rattle.envy_begun.specs.declared.file_contents.FileContents.{FileContents}
+use Rattle.envy_begun.specs.declared.file_contents.FileContents.TheVariants.{Written}
+use Rattle.envy_begun.specs.declared.open_fault.OpenFault.{OpenFault}
 use Rattle.envy_begun.specs.Beginning.{HasOperationsOf}
 use Rattle.envy_begun.specs.Left.{Leaves, Stays}
 use Rattle.envy_begun.specs.Plans.{BeginsAs, BeginsOn, ComesLater, Plans}
 use Rattle.envy_begun.specs.Unserved.{Causes, place_for, status_for, why_for}
-use Rattle.envy_layout.specs.Stands.{Stands}
+use Rattle.envy_meaning.specs.Stands.{Stands}
 use Rattle.envy_memory.specs.Formats.{IsStarted}
 use Rattle.envy_memory.specs.Picture.{Picture}
 use Rattle.envy_policy.specs.Setup.{checked}
@@ -37,7 +37,7 @@ told status why lines taken place = record { status = status; why = why; lines =
 -- operations that it had.
 pub record IsServed (options : KeepOptions) (file : List ℕ) (end : Told) (left_since : ℕ → List ℕ → Type 0) (now : ℕ) (io : Streams) : Type 0 where
   pub setup : Setup
-  pub holding : Holding
+  pub holding : FileContents
   pub array : Array
   pub plans : Plans holding options file setup
   pub checks : checked setup ≡ Ok tt
@@ -53,14 +53,14 @@ pub record IsServed (options : KeepOptions) (file : List ℕ) (end : Told) (left
 
 -- What a crash leaves of a file that isn't served: it as it was; or, where a memory was to begin in it, what is left by what
 -- it held.
-abbrev pub LeavesUnserved : {D : Type 0} → (D → ℕ → List ℕ → Type 0) → (D → ℕ) → KeepOptions → List ℕ → Unbegun → D → Type 0
+abbrev pub LeavesUnserved : {D : Type 0} → (D → ℕ → List ℕ → Type 0) → (D → ℕ) → KeepOptions → List ℕ → OpenFault → D → Type 0
 LeavesUnserved left_since moment options file unbegun device =
     Leaves left_since moment device (λ c. c ≡ file)
-    ⊎ ((setup : Setup) × (holding : Holding) × Plans holding options file setup × Leaves left_since moment device (Stays holding unbegun setup.shape file))
+    ⊎ ((setup : Setup) × (holding : FileContents) × Plans holding options file setup × Leaves left_since moment device (Stays holding unbegun setup.shape file))
 
 -- nothing was read or written on the streams
 pub record IsUnserved {D : Type 0} (seen : D → List ℕ) (has_failed : D → Bool) (left_since : D → ℕ → List ℕ → Type 0) (moment : D → ℕ) (options : KeepOptions) (file : List ℕ) (old new : D) (end : Told) (io : Streams) : Type 0 where
-  pub unbegun : Unbegun
+  pub unbegun : OpenFault
   pub says : end ≡ told (status_for unbegun) (why_for unbegun) 0 0 (place_for unbegun)
   pub causes : Causes seen has_failed options file old new unbegun
   pub later : ComesLater options file unbegun

@@ -1,14 +1,15 @@
 -- What a kept memory does below the array, from line to line.
 use Rattle.std.specs.Prelude.{◌≡◌, ◌⊎◌, ℕ, IsTrue, List, [], ◌∷◌}
-use Rattle.envy_disk.specs.Disk.{with_numbers}
+use Rattle.envy_base.specs.State.{SyncNote}
+use Rattle.envy_disk.specs.Disk.{with_sync}
 use Rattle.envy_map.specs.Fields.{Chart, failed}
 use Rattle.envy_memory.specs.Picture.{IsMemory, Picture}
 use Rattle.envy_trace.specs.declared.line.Line.TheVariants.{Empty}
 use Rattle.envy_trace.specs.declared.reply.Reply.{Reply}
-use Rattle.envy_keep_trace.specs.declared.keep_line.KeepLine.{KeepLine}
-use Rattle.envy_keep_trace.specs.declared.keep_line.KeepLine.TheVariants.{Trace, Sync}
-use Rattle.envy_keep_trace.specs.declared.keep_reply.KeepReply.{KeepReply}
-use Rattle.envy_keep_trace.specs.declared.keep_reply.KeepReply.TheVariants.{Trace as TraceReply, Synced}
+use Rattle.envy_trace.specs.declared.keep_line.KeepLine.{KeepLine}
+use Rattle.envy_trace.specs.declared.keep_line.KeepLine.TheVariants.{Trace, Sync}
+use Rattle.envy_trace.specs.declared.keep_reply.KeepReply.{KeepReply}
+use Rattle.envy_trace.specs.declared.keep_reply.KeepReply.TheVariants.{Trace as TraceReply, Synced}
 use Rattle.envy_serve.specs.Turns.{Leads}
 use Rattle.envy_synced.specs.Disk.{IsLast}
 use Rattle.envy_run.specs.Below.{FollowsRules, WorksOf}
@@ -20,7 +21,7 @@ ShowsMemory p = IsTrue p.chart.on × IsMemory p.chart p.parts p.owned p.limit p.
 
 -- the board tells of one sync more, and nothing else changed
 abbrev pub IsTold : Picture → Picture → Type 0
-IsTold old new = (plans given : ℕ) × (new ≡ record old { chart = with_numbers old.chart plans given old.chart.plans old.chart.given })
+IsTold old new = (sync : SyncNote) × (new ≡ record old { chart = with_sync old.chart sync })
 
 -- One line with its replies, from one picture of the memory to the next. A line of the array does what that call of the
 -- memory says: a flush is by the policy's choice, a background step by the first rule that applies, by limit and mark. An
@@ -41,7 +42,7 @@ abbrev pub HasBoard : Picture → List KeepTurn → Chart → Type 0
 HasBoard first turns board = (last : Picture) × Plays first turns last × (board ≡ last.chart)
 
 -- The board that the last sync brought to the disk is that of the memory behind these turns, of which the newest was
--- answered `synced`. Where there are none, it is what was on the disk when the memory began, by the numbers of its board.
+-- answered `synced`. Where there are none, it is what was on the disk when the memory began, by the notes of its board.
 abbrev pub IsOnDisk : Picture → List KeepTurn → Chart → Type 0
 IsOnDisk first [] board = IsLast board first.chart
 IsOnDisk first (turn ∷ earlier) board = HasBoard first (turn ∷ earlier) board

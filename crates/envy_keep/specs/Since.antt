@@ -2,18 +2,18 @@
 use Rattle.std.specs.Prelude.{◌≡◌, ◌<◌, false, true, IsTrue, ℕ, List, [], ◌∷◌, length, nat_lt, refl, Err}
 use Rattle.std.proofs.lemmas.Bool.{lt-ltb}
 use Rattle.envy_base.specs.Shape.{version_of}
-use Rattle.envy_base.specs.Array.{Array, undone}
+use Rattle.envy_array.specs.Array.{Array, undone}
 use Rattle.envy_synced.specs.Disk.{IsLast, IsSynced}
-use Rattle.envy_layout.specs.Sound.{IsSound}
-use Rattle.envy_layout.specs.Stands.{Stands}
-use Rattle.envy_layout.specs.Words.{durable}
+use Rattle.envy_soundness.specs.Sound.{IsSound}
+use Rattle.envy_meaning.specs.Stands.{Stands}
+use Rattle.envy_soundness.specs.Words.{durable}
 use Rattle.envy_map.specs.Codes.{the_magic}
 use Rattle.envy_map.specs.Fields.{Chart}
 use Rattle.envy_memory.specs.Picture.{Picture}
 use Rattle.envy_trace.specs.declared.fault.LineFault.TheVariants.{Long}
 use Rattle.envy_trace.specs.declared.reply.Reply.TheVariants.{Lost}
-use Rattle.envy_keep_trace.specs.declared.keep_reply.KeepReply.TheVariants.{Trace as TraceReply}
-use Rattle.envy_keep_trace.specs.Keep.{keep_line_of}
+use Rattle.envy_trace.specs.declared.keep_reply.KeepReply.TheVariants.{Trace as TraceReply}
+use Rattle.envy_trace.specs.Keep.{keep_line_of}
 use Rattle.envy_run.specs.Tells.{Telling}
 use Rattle.envy_run.specs.Tracing.{Start as RunStart}
 use Rattle.envy_keep.specs.Playing.{IsOnDisk, LosesBelow, Plays}
@@ -23,7 +23,7 @@ use Rattle.envy_keep.specs.Turns.{KeepTurn, KeepRun, LosesKeep, synced_turns, tr
 abbrev pub Start : Type 0
 Start = RunStart
 
--- The board as it was behind the last sync that succeeded, by the numbers of the board now. It stood for the array of the
+-- The board as it was behind the last sync that succeeded, by the notes of the board now. It stood for the array of the
 -- last line that was answered `synced`, or of the first line, and a restart would have found the words of that. It was the
 -- board of the memory behind that line.
 pub record IsSaved (start : Start) (now : Chart) (turns : List KeepTurn) : Type 0 where

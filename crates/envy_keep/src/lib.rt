@@ -5,16 +5,16 @@
 //! of the machine leaves: that of the last line that was answered `synced`.
 #![tactic(auto)]
 
-mod answering;
-mod ending;
-mod keeping;
-mod obeying;
-mod replying;
-mod serving;
-mod telling;
+mod answer;
+mod conclusion;
+mod end_text;
+mod file_trace;
+mod kept_service;
+mod line;
+mod reply_buffer;
 
-pub use ending::{KeepEnded, serve_kept};
-pub use keeping::Keeping;
-pub use replying::ReplyBuffer;
-pub use serving::keep;
-pub use telling::keep_end_text;
+pub use conclusion::{KeepEnded, serve_kept};
+pub use end_text::keep_end_text;
+pub use file_trace::keep;
+pub use kept_service::Keeping;
+pub use reply_buffer::ReplyBuffer;

@@ -8,17 +8,17 @@ use mir.Syntax.{named}
 use base.Fml.{Fml, ftrue}
 use Rattle.envy_bench.specs.contracts.calm.CalmBoard as calm_board
 use Rattle.envy_bench.specs.contracts.calm.CalmBoardBoard.TheImpl as calm
-use Rattle.envy_cells.specs.contracts.owned.CellBoard as cell_board
-use Rattle.envy_cells.specs.contracts.owned.CellBoardBoard.TheImpl as cells
-use Rattle.envy_cells.specs.contracts.steady.CellBoardSteady.TheImpl as steady
+use Rattle.envy_region.specs.contracts.owned_board.OwnedBoard as owned_board
+use Rattle.envy_region.specs.contracts.owned_board.OwnedBoardBoard.TheImpl as owned
+use Rattle.envy_journal.specs.contracts.steady.OwnedBoardSteady.TheImpl as steady
 use Rattle.envy_places.specs.contracts.place.MemoryPlace as place
 use Rattle.envy_places.specs.declared.place.MemoryPlace.TheVariants.{Regions}
 use Rattle.envy_portfile.specs.contracts.port.FilePort as file_port
-use Rattle.envy_portfile.specs.contracts.port.FilePortRawFile.TheImpl as raw
-use Rattle.envy_record.specs.contracts.recorded.Recorded as recorded
-use Rattle.envy_record.specs.contracts.recorded.RecordedDevice.TheImpl as device
-use Rattle.envy_region.specs.contracts.board.RegionBoard as region_board
-use Rattle.envy_region.specs.contracts.board.RegionBoardBoard.TheImpl as region
+use Rattle.envy_portfile.specs.contracts.port.FilePortFileCalls.TheImpl as raw
+use Rattle.envy_device.specs.contracts.logged_file.LoggedFile as recorded
+use Rattle.envy_device.specs.contracts.logged_file.LoggedFileDevice.TheImpl as device
+use Rattle.envy_region.specs.contracts.borrowed_board.BorrowedBoard as region_board
+use Rattle.envy_region.specs.contracts.borrowed_board.BorrowedBoardBoard.TheImpl as region
 use Rattle.envy_synced.specs.contracts.kept.Kept as kept
 use Rattle.envy_synced.specs.contracts.kept.KeptBoard.TheImpl as journaled
 
@@ -27,12 +27,12 @@ abbrev pub file_row : RattleType
 file_row = recorded.the_row file_port.the_row
 
 abbrev pub kept_row : RattleType
-kept_row = kept.the_row cell_board.the_row file_row cells.ghosts (device.ghosts file_port.the_row raw.ghosts raw.dict)
+kept_row = kept.the_row owned_board.the_row file_row owned.ghosts (device.ghosts file_port.the_row raw.ghosts raw.dict)
 
 -- a place for a memory over regions, in a file, or over a board that can be made to fail
 abbrev pub place_row : RattleType
 place_row = place.the_row (region_board.the_row static_lft) kept_row calm_board.the_row region.ghosts
-    (journaled.ghosts cell_board.the_row file_row steady.ghosts steady.dict cells.ghosts cells.dict (device.ghosts file_port.the_row raw.ghosts raw.dict) (device.dict file_port.the_row raw.ghosts raw.dict))
+    (journaled.ghosts owned_board.the_row file_row steady.ghosts steady.dict owned.ghosts owned.dict (device.ghosts file_port.the_row raw.ghosts raw.dict) (device.dict file_port.the_row raw.ghosts raw.dict))
     calm.ghosts
 
 -- a `&'static mut` to such a place

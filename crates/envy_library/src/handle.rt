@@ -6,11 +6,10 @@ ghost use Rattle.envy_openings.specs.Faultless.{IsFaultless};
 ghost use denote.RawPtr.{InBlock};
 
 use envy_bench::CalmBoard;
-use envy_cells::CellBoard;
 use envy_openings::faultless;
 use envy_places::MemoryPlace;
 use envy_portfile::PortFile;
-use envy_region::RegionBoard;
+use envy_region::{BorrowedBoard, OwnedBoard};
 use envy_synced::Kept;
 use std::marker::Model;
 
@@ -36,15 +35,19 @@ impl Envy {
 
     /// The handle of a place.
     pub fn of(
-        place: &'static mut MemoryPlace<RegionBoard<'static>, Kept<CellBoard, PortFile>, CalmBoard>,
+        place: &'static mut MemoryPlace<
+            BorrowedBoard<'static>,
+            Kept<OwnedBoard, PortFile>,
+            CalmBoard,
+        >,
     ) -> Envy
         ensures place { result.place ≡ place.entry }
         ensures live { InBlock result.at }
     {
         Envy {
             at: place as *mut MemoryPlace<
-                RegionBoard<'static>,
-                Kept<CellBoard, PortFile>,
+                BorrowedBoard<'static>,
+                Kept<OwnedBoard, PortFile>,
                 CalmBoard,
             > as *mut u8,
         }
@@ -53,15 +56,15 @@ impl Envy {
     /// The place of a handle.
     pub fn into_place(
         self,
-    ) -> &'static mut MemoryPlace<RegionBoard<'static>, Kept<CellBoard, PortFile>, CalmBoard>
+    ) -> &'static mut MemoryPlace<BorrowedBoard<'static>, Kept<OwnedBoard, PortFile>, CalmBoard>
         requires { InBlock self.at }
         ensures { result ≡ self.place }
     {
         let Envy { at } = self;
         unsafe {
             &mut *(at as *mut MemoryPlace<
-                RegionBoard<'static>,
-                Kept<CellBoard, PortFile>,
+                BorrowedBoard<'static>,
+                Kept<OwnedBoard, PortFile>,
                 CalmBoard,
             >)
         }
@@ -71,7 +74,7 @@ impl Envy {
 /// Takes the place out of a handle, which is one of no place then.
 pub fn lend(
     m: &mut Envy,
-) -> &'static mut MemoryPlace<RegionBoard<'static>, Kept<CellBoard, PortFile>, CalmBoard>
+) -> &'static mut MemoryPlace<BorrowedBoard<'static>, Kept<OwnedBoard, PortFile>, CalmBoard>
     requires { InBlock m.old.at }
     ensures place { result ≡ m.old.place }
     ensures faultless { IsFaultless result.now }
@@ -84,7 +87,7 @@ pub fn lend(
 /// Puts a place back into a handle.
 pub fn give_back(
     m: &mut Envy,
-    place: &'static mut MemoryPlace<RegionBoard<'static>, Kept<CellBoard, PortFile>, CalmBoard>,
+    place: &'static mut MemoryPlace<BorrowedBoard<'static>, Kept<OwnedBoard, PortFile>, CalmBoard>,
 )
     ensures place { m.new.place ≡ place.entry }
     ensures live { InBlock m.new.at }

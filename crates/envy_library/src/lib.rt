@@ -8,16 +8,16 @@
 
 mod bulk;
 mod calls;
-mod failing;
+mod failures;
 mod handle;
 mod images;
 mod index_calls;
 mod map_calls;
-mod opening;
+mod openings;
 mod picture;
 mod regions;
 mod sizes;
-mod syncing;
+mod sync;
 
 pub use handle::Envy;
 pub use regions::{EnvyRows, EnvyWords};

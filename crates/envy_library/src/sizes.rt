@@ -8,7 +8,7 @@ ghost use Rattle.envy_openings.specs.Sizes.{SizesBoard, SizesRegions};
 use envy_calls::{EnvySetup, shape};
 use envy_openings::{EnvySizes, board_size, region_sizes};
 
-/// How many bytes the board of a memory in a file takes from the heap, beside the tables of its parts.
+/// How many bytes the board of a memory in a file takes from the heap at most, beside the tables of its parts.
 #[unsafe(no_mangle)]
 pub extern "C" fn envy_board_size(setup: &EnvySetup, bytes: &mut u64) -> u32
     ensures { (code : OfCode) × (result ≡ number_of code) × SizesBoard setup.now bytes.old bytes.new code }

@@ -8,7 +8,7 @@ use Rattle.envy_base.specs.declared.fields.Slot.{Slot}
 use Rattle.envy_base.specs.declared.fields.Undo.{Undo}
 use Rattle.envy_base.specs.Counting.{up}
 use Rattle.envy_base.specs.Map.{slots_at, wear_at, fill_at, position_at, table_at, undo_at, back_at, origin_at, frames_at}
-use Rattle.envy_base.specs.State.{State}
+use Rattle.envy_base.specs.State.{Notes, State}
 use Rattle.envy_map.specs.Codes.{the_magic, job_of, slot_of, place_of, undo_of, halves}
 use Rattle.envy_base.specs.declared.page.TheConstants.{PAGE_WORDS}
 use Rattle.envy_base.specs.Shape.{all_positions_of}
@@ -109,6 +109,7 @@ pub record Chart : Type 0 where
   pub last_plan : Option PlannedFault
   pub lives : ℕ
   pub given : ℕ
+  pub notes : Notes
 
 abbrev pub chart : State → Chart
 chart s = record {
@@ -125,6 +126,7 @@ chart s = record {
   last_plan = s.last_plan;
   lives = s.lives;
   given = s.given;
+  notes = s.notes;
 }
 
 -- after a failure of power

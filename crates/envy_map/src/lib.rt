@@ -4,8 +4,8 @@
 //! as before or as written.
 #![tactic(auto)]
 
+mod blank_map;
 mod code;
-mod formatting;
 mod frame;
 mod half;
 mod header;
@@ -17,10 +17,10 @@ mod row;
 mod segment;
 mod slots;
 
-pub use code::{decode_job, decode_place, decode_slot, decode_undo};
-pub use formatting::{
+pub use blank_map::{
     clear_places, clear_undos, set_magic, set_reserves, set_size, set_sums, set_version,
 };
+pub use code::{decode_job, decode_place, decode_slot, decode_undo};
 pub use frame::{frame_word, set_frame_word, write_frame};
 pub use header::{MAGIC, is_formatted, kept_shape, version};
 pub use jobs::{job, set_job};

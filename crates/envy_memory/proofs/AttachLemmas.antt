@@ -4,10 +4,10 @@ use Rattle.std.specs.Prelude.{IsTrue, replicate}
 use Rattle.std.proofs.lemmas.Bool.{cases_lt}
 use Rattle.std.proofs.lemmas.List.Elements.{All-nil}
 use Rattle.std.proofs.lemmas.List.{ext_get_or, get_or-replicate, get_or_past, length-replicate}
-use Rattle.envy_base.specs.Array.{Saved, IsArray, owns, zeros}
-use Rattle.envy_base.proofs.Keeping.{IsArray-closed, IsArray-zeros}
-use Rattle.envy_base.proofs.Owning.{owner-nobody}
-use Rattle.envy_base.proofs.Undoing.{undo_all-closed}
+use Rattle.envy_array.specs.Array.{Saved, IsArray, owns, zeros}
+use Rattle.envy_array.proofs.Keeping.{IsArray-closed, IsArray-zeros}
+use Rattle.envy_array.proofs.Owning.{owner-nobody}
+use Rattle.envy_array.proofs.Undoing.{undo_all-closed}
 use Rattle.envy_base.specs.Shape.{IsShape, IsVersionOf, positions_of, version_of}
 use Rattle.envy_base.proofs.Versions.{version-known, version-plain}
 use Rattle.envy_base.specs.declared.fields.Slot.TheVariants.{Committed, Vacant}
@@ -15,22 +15,22 @@ use Rattle.envy_base.specs.declared.shape.Shape.{Shape}
 use Rattle.envy_map.specs.Codes.{the_magic}
 use Rattle.envy_map.specs.Fields.{Chart, IsFormatted, IsVersion, slot, undo, shape_in, shape_of, with_fields}
 use Rattle.envy_map.proofs.Sizes.{shape_in-kept}
-use Rattle.envy_layout.specs.Sound.{Sound, IsSound, Head, Slots, slot_named}
-use Rattle.envy_layout.specs.Stands.{Stands, slot_word}
-use Rattle.envy_layout.specs.Upgrading.{upgraded}
-use Rattle.envy_layout.specs.Words.{live, durable}
-use Rattle.envy_layout.proofs.WordLists.{length-durable}
+use Rattle.envy_soundness.specs.Sound.{Sound, IsSound, Head, Slots, slot_named}
+use Rattle.envy_meaning.specs.Stands.{Stands, slot_word}
+use Rattle.envy_soundness.specs.Upgrading.{upgraded}
+use Rattle.envy_soundness.specs.Words.{live, durable}
+use Rattle.envy_soundness.proofs.WordLists.{length-durable}
 use Rattle.envy_policy.specs.declared.setup.Setup.{Setup}
 use Rattle.envy_table.specs.Entries.{Entry, vacant}
 use Rattle.envy_table.specs.Hits.{page_in, page_at, Empties}
 use Rattle.envy_txn.specs.Owners.{Ownership, AreOwned, owner_in}
-use Rattle.envy_flush.specs.Agreement.{Fits, Ready}
-use Rattle.envy_flush.specs.Restarts.{IsSettled, SameCounts}
-use Rattle.envy_flush.specs.declared.parts.Parts.{Parts}
+use Rattle.envy_engine.specs.Agreement.{Fits, Ready}
+use Rattle.envy_engine.specs.Restarts.{IsSettled, SameCounts}
+use Rattle.envy_engine.specs.declared.parts.Parts.{Parts}
 use Rattle.envy_memory.specs.Attaching.{MayAttach}
 use Rattle.envy_memory.specs.Calls.{fresh}
 use Rattle.envy_memory.specs.Formats.{IsStarted}
-use Rattle.envy_flush.specs.Starting.{started_parts}
+use Rattle.envy_engine.specs.Starting.{started_parts}
 use Rattle.envy_memory.specs.Making.{StartsAnew}
 use Rattle.envy_memory.specs.Picture.{IsMemory, counts_of}
 

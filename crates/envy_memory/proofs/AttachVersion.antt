@@ -12,11 +12,11 @@ use Rattle.envy_base.specs.declared.fields.Undo.{Undo}
 use Rattle.envy_base.specs.declared.fields.Undo.TheVariants.{Clear, Blank}
 use Rattle.envy_map.specs.Fields.{Chart, with_fields}
 use Rattle.envy_map.specs.Writes.{with_frame, with_slot, with_undo, pasted}
-use Rattle.envy_layout.specs.Formatting.{IsEmpty}
-use Rattle.envy_layout.specs.May.{HasChanged}
-use Rattle.envy_layout.specs.Sound.{Sound, Slots, owned_by}
-use Rattle.envy_layout.specs.Words.{word_at}
-use Rattle.envy_layout.proofs.Filling.{get_or-pasted_in}
+use Rattle.envy_soundness.specs.Formatting.{IsEmpty}
+use Rattle.envy_soundness.specs.May.{HasChanged}
+use Rattle.envy_soundness.specs.Sound.{Sound, Slots, owned_by}
+use Rattle.envy_soundness.specs.Words.{word_at}
+use Rattle.envy_soundness.proofs.Filling.{get_or-pasted_in}
 
 -- no page has an owner, whatever the slots are
 pub none-owned : (c : Chart) (slots : List (Option Slot)) → IsEmpty 1 c → count_by (owned_by slots) c.fields.undos ≡ 0

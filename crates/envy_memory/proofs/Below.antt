@@ -8,15 +8,15 @@ use Rattle.envy_map.specs.Fields.{Chart}
 use Rattle.envy_reloc.specs.Phases.{SameOnce}
 use Rattle.envy_table.specs.Hits.{Accesses, Rests}
 use Rattle.envy_txn.specs.Owners.{Ownership, owner_of}
-use Rattle.envy_flush.specs.Agreement.{Fits}
-use Rattle.envy_flush.specs.Counts.{Counting}
-use Rattle.envy_flush.specs.Flushing.{Stops}
-use Rattle.envy_flush.specs.Putting.{PutsBy}
-use Rattle.envy_flush.specs.Storing.{StoresBy}
-use Rattle.envy_flush.specs.Ticks.{TicksBy, TicksBad, CountsTick, IsNoneDue}
-use Rattle.envy_flush.specs.declared.did.Did.{Did}
-use Rattle.envy_flush.specs.declared.did.Did.TheVariants.{Idle}
-use Rattle.envy_flush.specs.declared.parts.Parts.{Parts}
+use Rattle.envy_engine.specs.Agreement.{Fits}
+use Rattle.envy_engine.specs.Counts.{Counting}
+use Rattle.envy_engine.specs.Flushing.{Stops}
+use Rattle.envy_engine.specs.Putting.{PutsBy}
+use Rattle.envy_engine.specs.Storing.{StoresBy}
+use Rattle.envy_engine.specs.Ticks.{TicksBy, TicksBad, CountsTick, IsNoneDue}
+use Rattle.envy_engine.specs.declared.did.Did.{Did}
+use Rattle.envy_engine.specs.declared.did.Did.TheVariants.{Idle}
+use Rattle.envy_engine.specs.declared.parts.Parts.{Parts}
 use Rattle.envy_memory.specs.Below.{StoresBelow, PutsBelow, TicksBelow, flush_programs, flush_erases}
 use Rattle.envy_memory.specs.Calls.{Works}
 use Rattle.envy_memory.specs.Faults.{store_fault, put_fault}

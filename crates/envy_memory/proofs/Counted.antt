@@ -3,9 +3,9 @@ use Rattle.std.proofs.Common.{◌≡◌, ◌⊎◌, inl, inr, ℕ, ◌+◌, ◌-
 use Rattle.std.specs.Prelude.{sum}
 use Rattle.std.proofs.lemmas.Bool.{cases_lt}
 use Rattle.envy_base.specs.Counting.{up}
-use Rattle.envy_base.specs.declared.counts.Counts.{Counts}
-use Rattle.envy_flush.specs.Counts.{Tallies}
-use Rattle.envy_layout.specs.Same.{Counted, Grows}
+use Rattle.envy_array.specs.declared.counts.Counts.{Counts}
+use Rattle.envy_engine.specs.Counts.{Tallies}
+use Rattle.envy_soundness.specs.Same.{Counted, Grows}
 use Rattle.envy_memory.specs.Picture.{Picture, counts_of}
 use Rattle.envy_memory.specs.Rises.{RoseBy, RoseOver}
 

@@ -6,12 +6,12 @@ use Rattle.envy_base.specs.declared.fields.Place.{Place}
 use Rattle.envy_base.specs.declared.fields.Place.TheVariants.{Absent, Row, Frame}
 use Rattle.envy_frames.specs.Agreement.{IsElsewhere}
 use Rattle.envy_map.specs.Fields.{Chart, place}
-use Rattle.envy_flush.specs.Agreement.{Fits}
-use Rattle.envy_flush.specs.Flushing.{MakesRoom, FlushesOldest, GetsRow, Ends}
-use Rattle.envy_flush.specs.Putting.{PutsBy, ShadesFramed, ShadesElsewhere}
-use Rattle.envy_flush.specs.Storing.{StoresBy, StaysFramed, Fetches, Brings, Rows}
-use Rattle.envy_flush.specs.declared.parts.Parts.{Parts}
-use Rattle.envy_flush.proofs.FlushLemmas.{Ends-after}
+use Rattle.envy_engine.specs.Agreement.{Fits}
+use Rattle.envy_engine.specs.Flushing.{MakesRoom, FlushesOldest, GetsRow, Ends}
+use Rattle.envy_engine.specs.Putting.{PutsBy, ShadesFramed, ShadesElsewhere}
+use Rattle.envy_engine.specs.Storing.{StoresBy, StaysFramed, Fetches, Brings, Rows}
+use Rattle.envy_engine.specs.declared.parts.Parts.{Parts}
+use Rattle.envy_engine.proofs.FlushLemmas.{Ends-after}
 use Rattle.envy_memory.specs.Effects.{is_frame, flushes_after}
 use Rattle.envy_memory.specs.Picture.{Picture}
 

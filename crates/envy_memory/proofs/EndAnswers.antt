@@ -8,16 +8,16 @@ use Rattle.envy_base.specs.declared.fields.Slot.{Slot}
 use Rattle.envy_base.specs.declared.fields.Slot.TheVariants.{Active, Committed, Vacant}
 use Rattle.envy_base.specs.declared.shape.Shape.{Shape}
 use Rattle.envy_map.specs.Fields.{Chart, slot}
-use Rattle.envy_layout.specs.Same.{SameDurable, SameWords, Commits, Counted, Wears}
-use Rattle.envy_layout.specs.Sound.{IsSound, Sound, Slots}
-use Rattle.envy_layout.specs.Transactions.{Closes}
-use Rattle.envy_layout.proofs.Composition.{Counted-refl, Wears-refl}
+use Rattle.envy_soundness.specs.Same.{SameDurable, SameWords, Commits, Counted, Wears}
+use Rattle.envy_soundness.specs.Sound.{IsSound, Sound, Slots}
+use Rattle.envy_meaning.specs.Transactions.{Closes}
+use Rattle.envy_soundness.proofs.Composition.{Counted-refl, Wears-refl}
 use Rattle.envy_table.specs.Hits.{Rests}
 use Rattle.envy_txn.specs.Owners.{Ownership}
-use Rattle.envy_flush.specs.Agreement.{Steady}
-use Rattle.envy_flush.specs.Ending.{EndsSlot, TakesSlot}
-use Rattle.envy_flush.specs.Putting.{KeepsOwners}
-use Rattle.envy_flush.specs.declared.parts.Parts.{Parts}
+use Rattle.envy_engine.specs.Agreement.{Steady}
+use Rattle.envy_engine.specs.Ending.{EndsSlot, TakesSlot}
+use Rattle.envy_engine.specs.Putting.{KeepsOwners}
+use Rattle.envy_engine.specs.declared.parts.Parts.{Parts}
 use Rattle.envy_memory.specs.Below.{AbortsBelow, CommitsBelow, IsShut}
 use Rattle.envy_memory.specs.Calls.{Works, IsCut, Undisturbed}
 use Rattle.envy_memory.specs.Picture.{Picture, IsMemory}

@@ -1,7 +1,7 @@
 -- What a call in which power failed was.
 use Rattle.std.proofs.Common.{◌≡◌, ◌⊎◌, inl, inr, false, ℕ, arith}
 use Rattle.envy_map.specs.Fields.{Chart}
-use Rattle.envy_layout.specs.Same.{SameDurable, Commits, Counted}
+use Rattle.envy_soundness.specs.Same.{SameDurable, Commits, Counted}
 use Rattle.envy_memory.specs.Calls.{IsCut, Undisturbed}
 
 pub Counted-commit : (t : ℕ) (c new : Chart) → SameDurable 0 0 c new ⊎ Commits 0 0 t c new → Counted 0 0 c new

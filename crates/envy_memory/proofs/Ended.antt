@@ -6,22 +6,22 @@ use Rattle.std.proofs.Props.{props}
 use Rattle.std.proofs.lemmas.Bool.{cases_eq, cases_lt, eq-eqb}
 use Rattle.std.proofs.lemmas.List.{get_or_past}
 use Rattle.envy_base.specs.declared.faults.PlannedFault.{PlannedFault}
-use Rattle.envy_base.specs.Array.{Array, Saved, slot_of, undone, owns, owner, put_back, aborted}
-use Rattle.envy_base.specs.Step.{Answer, Step, Lost, Commit, Abort, Done, Closed}
-use Rattle.envy_base.specs.Words.{OnPage, Puts as SheetPuts, has}
+use Rattle.envy_array.specs.Array.{Array, Saved, slot_of, undone, owns, owner, put_back, aborted}
+use Rattle.envy_array.specs.Step.{Answer, Step, Lost, Commit, Abort, Done, Closed}
+use Rattle.envy_array.specs.Words.{OnPage, Puts as SheetPuts, has}
 use Rattle.envy_base.specs.Shape.{version_of}
 use Rattle.envy_base.specs.declared.fields.Slot.{Slot}
 use Rattle.envy_base.specs.declared.fields.Slot.TheVariants.{Active, Committed, Vacant}
 use Rattle.envy_base.specs.declared.shape.Shape.{Shape}
-use Rattle.envy_base.proofs.Owning.{owner-nobody}
-use Rattle.envy_base.proofs.Undoing.{undo_all-closed}
+use Rattle.envy_array.proofs.Owning.{owner-nobody}
+use Rattle.envy_array.proofs.Undoing.{undo_all-closed}
 use Rattle.envy_map.specs.Codes.{the_magic}
 use Rattle.envy_map.specs.Fields.{Chart, slot, undo}
-use Rattle.envy_layout.specs.Sound.{Sound, IsSound, Slots, slot_named}
-use Rattle.envy_layout.proofs.Owners.{owner_in-holds}
-use Rattle.envy_layout.proofs.WordLists.{length-durable}
-use Rattle.envy_layout.specs.Stands.{Holds, Stands, Steps, IsLost, slot_word}
-use Rattle.envy_layout.specs.Words.{live, durable}
+use Rattle.envy_soundness.specs.Sound.{Sound, IsSound, Slots, slot_named}
+use Rattle.envy_meaning.proofs.Owners.{owner_in-holds}
+use Rattle.envy_soundness.proofs.WordLists.{length-durable}
+use Rattle.envy_meaning.specs.Stands.{Holds, Stands, Steps, IsLost, slot_word}
+use Rattle.envy_soundness.specs.Words.{live, durable}
 use Rattle.envy_txn.specs.Owners.{Ownership, AreOwned, owner_of, owner_in}
 use Rattle.envy_txn.specs.declared.pair.Pair.{Pair}
 use Rattle.envy_memory.proofs.AttachLemmas.{IsArray-fresh}

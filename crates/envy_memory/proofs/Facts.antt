@@ -3,7 +3,7 @@ use Rattle.std.proofs.Common.{◌≡◌, ◌⊎◌, inl, inr, ℕ, ◌<◌, ◌�
 use Rattle.std.specs.Prelude.{IsTrue, replicate}
 use Rattle.std.proofs.lemmas.Bool.{cases_lt}
 use Rattle.std.proofs.lemmas.List.{get_or-replicate, get_or_past, length-replicate}
-use Rattle.envy_base.specs.Array.{Saved}
+use Rattle.envy_array.specs.Array.{Saved}
 
 pub none-open : (n t : ℕ) → get_or {A = Option Saved} (replicate n None) t None ≡ None
 none-open n t = at (cases_lt t n)

@@ -1,19 +1,19 @@
 -- What a board stands for that was just formatted.
 use Rattle.std.proofs.Common.{◌≡◌, inl, inr, ◌*◌, Option, Some, refl, sym, ◌∙◌, ap, subst}
 use Rattle.std.specs.Prelude.{replicate}
-use Rattle.envy_base.specs.Array.{Saved, owns, zeros}
-use Rattle.envy_base.proofs.Keeping.{IsArray-zeros}
-use Rattle.envy_base.proofs.Owning.{owner-nobody}
-use Rattle.envy_base.proofs.Undoing.{undo_all-closed}
+use Rattle.envy_array.specs.Array.{Saved, owns, zeros}
+use Rattle.envy_array.proofs.Keeping.{IsArray-zeros}
+use Rattle.envy_array.proofs.Owning.{owner-nobody}
+use Rattle.envy_array.proofs.Undoing.{undo_all-closed}
 use Rattle.envy_base.specs.Shape.{version_of}
 use Rattle.envy_base.specs.State.{State}
 use Rattle.envy_base.specs.declared.shape.Shape.{Shape}
 use Rattle.envy_map.specs.Fields.{Chart, chart}
-use Rattle.envy_layout.specs.Formatting.{IsEmpty, IsBetween as OfLayout}
-use Rattle.envy_layout.specs.Sound.{slot_named}
-use Rattle.envy_layout.specs.Stands.{Holds, slot_word}
+use Rattle.envy_soundness.specs.Formatting.{IsEmpty, IsBetween as OfLayout}
+use Rattle.envy_soundness.specs.Sound.{slot_named}
+use Rattle.envy_meaning.specs.Stands.{Holds, slot_word}
 use Rattle.envy_memory.proofs.Slots.{slot-low}
-use Rattle.envy_flush.specs.Restarts.{IsSettled}
+use Rattle.envy_engine.specs.Restarts.{IsSettled}
 use Rattle.envy_memory.specs.Formats.{IsBetween}
 use Rattle.envy_memory.proofs.AttachLemmas.{closed}
 

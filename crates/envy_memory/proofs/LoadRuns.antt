@@ -1,13 +1,13 @@
 -- Runs of words that are loaded, page by page.
 use Rattle.std.proofs.Common.{◌≡◌, ◌≢◌, ◌⊎◌, inl, inr, ℕ, zero, suc, ◌+◌, ◌-◌, ◌*◌, ◌/◌, ◌%◌, ◌<◌, ◌≤◌, List, length, get_or, Option, Some, Ok, refl, sym, ◌∙◌, ap, subst, arith}
 use Rattle.std.proofs.lemmas.Bool.{cases_eq}
-use Rattle.envy_base.specs.Array.{Array}
+use Rattle.envy_array.specs.Array.{Array}
 use Rattle.envy_base.specs.declared.fields.Place.{Place}
 use Rattle.envy_map.specs.Fields.{Chart, place}
-use Rattle.envy_layout.specs.Stands.{Holds, Stands}
-use Rattle.envy_layout.specs.Words.{word_at, live, live_word}
-use Rattle.envy_layout.proofs.Standing.{length-stands}
-use Rattle.envy_layout.proofs.WordLists.{get_or-words}
+use Rattle.envy_meaning.specs.Stands.{Holds, Stands}
+use Rattle.envy_soundness.specs.Words.{word_at, live, live_word}
+use Rattle.envy_meaning.proofs.Standing.{length-stands}
+use Rattle.envy_soundness.proofs.WordLists.{get_or-words}
 use Rattle.envy_table.specs.Entries.{Translations}
 use Rattle.envy_table.specs.Hits.{Accesses}
 use Rattle.envy_memory.specs.Picture.{Picture}

@@ -1,24 +1,24 @@
 -- What the owner pairs say of a board that stands for an array, and what holds of a memory after a store or put.
 use Rattle.std.proofs.Common.{◌≡◌, false, ℕ, ◌+◌, ◌*◌, ◌/◌, ◌%◌, ◌<◌, ◌≤◌, List, length, get_or, Option, None, refl, sym, ◌∙◌, ap, subst, arith}
 use Rattle.std.specs.Prelude.{IsTrue, Err}
-use Rattle.envy_base.specs.Array.{Array, owner, stored}
-use Rattle.envy_base.specs.Step.{Store, Done, Accepts}
+use Rattle.envy_array.specs.Array.{Array, owner, stored}
+use Rattle.envy_array.specs.Step.{Store, Done, Accepts}
 use Rattle.envy_base.specs.Shape.{version_of}
 use Rattle.envy_base.specs.declared.board.Trouble.{Trouble}
 use Rattle.envy_base.specs.declared.board.Trouble.TheVariants.{Off as TroubleOff, Bad as TroubleBad}
 use Rattle.envy_base.specs.declared.fields.Slot.{Slot}
 use Rattle.envy_base.specs.declared.shape.Shape.{Shape}
 use Rattle.envy_map.specs.Fields.{Chart, undo}
-use Rattle.envy_layout.specs.Same.{Framed, Stored, Interrupted}
-use Rattle.envy_layout.specs.Sound.{owned_by}
-use Rattle.envy_layout.specs.Stands.{Stands, Steps}
-use Rattle.envy_layout.proofs.Composition.{Counted-more}
-use Rattle.envy_layout.proofs.Owners.{owner_in-framed, owner_in-holds, unowned}
-use Rattle.envy_layout.proofs.Standing.{Stands-stored, Stands-same, IsLost-interrupted}
+use Rattle.envy_soundness.specs.Same.{Framed, Stored, Interrupted}
+use Rattle.envy_soundness.specs.Sound.{owned_by}
+use Rattle.envy_meaning.specs.Stands.{Stands, Steps}
+use Rattle.envy_soundness.proofs.Composition.{Counted-more}
+use Rattle.envy_meaning.proofs.Owners.{owner_in-framed, owner_in-holds, unowned}
+use Rattle.envy_meaning.proofs.Standing.{Stands-stored, Stands-same, IsLost-interrupted}
 use Rattle.envy_txn.specs.Owners.{Ownership, AreOwned, owner_of}
-use Rattle.envy_flush.specs.Agreement.{Steady}
-use Rattle.envy_flush.specs.Storing.{Wrote, Leaves}
-use Rattle.envy_flush.specs.declared.parts.Parts.{Parts}
+use Rattle.envy_engine.specs.Agreement.{Steady}
+use Rattle.envy_engine.specs.Storing.{Wrote, Leaves}
+use Rattle.envy_engine.specs.declared.parts.Parts.{Parts}
 use Rattle.envy_memory.specs.Calls.{Stores, Works}
 use Rattle.envy_memory.specs.Faults.{store_fault}
 use Rattle.envy_memory.specs.Picture.{IsMemory}

@@ -1,8 +1,8 @@
 -- A memory with one transaction: the flash work of its calls, in puts.
 use Rattle.std.proofs.Common.{◌≡◌, ℕ, ◌*◌, ◌≤◌, Bool, ap, arith}
 use Rattle.std.specs.Prelude.{sum}
-use Rattle.envy_base.specs.Words.{Spends}
-use Rattle.envy_layout.specs.Same.{Counted, Grows}
+use Rattle.envy_array.specs.Words.{Spends}
+use Rattle.envy_soundness.specs.Same.{Counted, Grows}
 use Rattle.envy_map.specs.Fields.{Chart}
 use Rattle.envy_memory.specs.Below.{flush_programs, flush_erases}
 use Rattle.envy_memory.specs.Calls.{Works}

@@ -5,12 +5,12 @@ use Rattle.envy_base.specs.declared.board.Trouble.{Trouble}
 use Rattle.envy_base.specs.declared.board.Trouble.TheVariants.{Off as TroubleOff, Bad as TroubleBad}
 use Rattle.envy_base.specs.declared.fields.Slot.TheVariants.{Active}
 use Rattle.std.proofs.lemmas.List.{get_or_past}
-use Rattle.envy_layout.specs.Sound.{Sound, Slots, IsSound}
+use Rattle.envy_soundness.specs.Sound.{Sound, Slots, IsSound}
 use Rattle.envy_map.specs.Fields.{Chart, slot}
 use Rattle.envy_txn.specs.Owners.{owner_of}
 use Rattle.envy_memory.specs.Below.{PutsBelow, IsPast, IsShutTo, IsKeptFrom, IsFull}
 use Rattle.envy_memory.specs.Calls.{IsCut, HasFailed, Undisturbed}
-use Rattle.envy_layout.specs.Power.{power_after}
+use Rattle.envy_soundness.specs.Power.{power_after}
 use Rattle.envy_memory.specs.Effects.{PutVisits}
 use Rattle.envy_memory.specs.Faults.{put_fault, IsNoRefusal}
 use Rattle.envy_memory.specs.Picture.{Picture}

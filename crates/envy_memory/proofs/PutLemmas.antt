@@ -2,8 +2,8 @@
 use Rattle.std.proofs.Common.{◌≡◌, ◌≢◌, ◌⊎◌, inl, inr, Bool, true, false, ℕ, ◌+◌, ◌*◌, ◌/◌, ◌%◌, ◌<◌, ◌≤◌, List, length, get_or, Option, None, Some, refl, sym, ◌∙◌, ap, subst, arith}
 use Rattle.std.specs.Prelude.{IsTrue, Result, Ok, Err, ◌↔◌}
 use Rattle.std.proofs.lemmas.Bool.{cases_lt}
-use Rattle.envy_base.specs.Array.{Array, Saved, owner, owned, slot_of, put}
-use Rattle.envy_base.specs.Step.{Put, Done}
+use Rattle.envy_array.specs.Array.{Array, Saved, owner, owned, slot_of, put}
+use Rattle.envy_array.specs.Step.{Put, Done}
 use Rattle.envy_base.specs.Shape.{version_of}
 use Rattle.envy_base.specs.declared.board.Trouble.{Trouble}
 use Rattle.envy_base.specs.declared.board.Trouble.TheVariants.{Off as TroubleOff, Bad as TroubleBad}
@@ -11,21 +11,21 @@ use Rattle.envy_base.specs.declared.fields.Slot.{Slot}
 use Rattle.envy_base.specs.declared.fields.Slot.TheVariants.{Active}
 use Rattle.envy_base.specs.declared.shape.Shape.{Shape}
 use Rattle.envy_map.specs.Fields.{Chart, slot, undo}
-use Rattle.envy_layout.specs.Same.{Framed, Same, SameDurable, Shadowed, Counted, Wears, Stays}
-use Rattle.envy_layout.specs.Sound.{owned_by}
-use Rattle.envy_layout.specs.Stands.{Stands, Steps}
-use Rattle.envy_layout.specs.Transactions.{PutDone, Owns}
-use Rattle.envy_layout.proofs.Composition.{Counted-more}
-use Rattle.envy_layout.proofs.Ending.{open-active}
-use Rattle.envy_layout.proofs.Owners.{owned-counted, owner_in-false}
-use Rattle.envy_layout.proofs.Putting.{Steps-put, Steps-put_again, IsLost-put}
-use Rattle.envy_layout.proofs.Standing.{Stands-same, IsLost-dropped}
+use Rattle.envy_soundness.specs.Same.{Framed, Same, SameDurable, Shadowed, Counted, Wears, Stays}
+use Rattle.envy_soundness.specs.Sound.{owned_by}
+use Rattle.envy_meaning.specs.Stands.{Stands, Steps}
+use Rattle.envy_meaning.specs.Transactions.{PutDone, Owns}
+use Rattle.envy_soundness.proofs.Composition.{Counted-more}
+use Rattle.envy_meaning.proofs.Ending.{open-active}
+use Rattle.envy_meaning.proofs.Owners.{owned-counted, owner_in-false}
+use Rattle.envy_meaning.proofs.Putting.{Steps-put, Steps-put_again, IsLost-put}
+use Rattle.envy_meaning.proofs.Standing.{Stands-same, IsLost-dropped}
 use Rattle.envy_txn.specs.Owners.{Ownership, IsOwnership, AreOwned, owner_of}
 use Rattle.envy_txn.proofs.OwnerLemmas.{pairs-counted}
-use Rattle.envy_flush.specs.Agreement.{Steady}
-use Rattle.envy_flush.specs.Putting.{PutFirst, OwnersAgree}
-use Rattle.envy_flush.specs.Storing.{Shaded}
-use Rattle.envy_flush.specs.declared.parts.Parts.{Parts}
+use Rattle.envy_engine.specs.Agreement.{Steady}
+use Rattle.envy_engine.specs.Putting.{PutFirst, OwnersAgree}
+use Rattle.envy_engine.specs.Storing.{Shaded}
+use Rattle.envy_engine.specs.declared.parts.Parts.{Parts}
 use Rattle.envy_memory.specs.Calls.{Puts, Works}
 use Rattle.envy_memory.specs.Faults.{put_fault}
 use Rattle.envy_memory.specs.Picture.{IsMemory}

@@ -2,7 +2,7 @@
 use Rattle.std.proofs.Common.{◌≡◌, ◌⊎◌, inl, inr, Bool, true, false, ℕ, ◌+◌, ◌*◌, ◌/◌, ◌%◌, ◌<◌, ◌≤◌, List, get_or, Option, None, Some, refl, sym, ◌∙◌, ap, subst, arith, [], ◌∷◌, ◌++◌}
 use Rattle.std.specs.Prelude.{IsTrue, Result, Ok, Err, ◌↔◌, if◌then◌else◌}
 use Rattle.std.proofs.lemmas.Bool.{cases_lt, eq-eqb}
-use Rattle.envy_base.specs.Array.{Array}
+use Rattle.envy_array.specs.Array.{Array}
 use Rattle.envy_base.specs.declared.board.Trouble.TheVariants.{Off as TroubleOff, Bad}
 use Rattle.envy_base.specs.declared.fields.Place.{Place}
 use Rattle.envy_base.specs.declared.fields.Place.TheVariants.{Frame}
@@ -12,15 +12,15 @@ use Rattle.envy_base.specs.declared.fields.Undo.{Undo}
 use Rattle.envy_base.specs.declared.fields.Undo.TheVariants.{Clear, Blank, Shadow}
 use Rattle.envy_map.specs.Fields.{Chart, undo, place, with_fields}
 use Rattle.envy_map.specs.Writes.{with_frame_word}
-use Rattle.envy_layout.specs.Same.{Framed, Shadowed, Dropped, Counted, Wears}
-use Rattle.envy_layout.specs.Sound.{Sound, Slots, is_active, owned_by, slot_named}
-use Rattle.envy_layout.specs.Stands.{Stands}
-use Rattle.envy_layout.proofs.Composition.{cause}
-use Rattle.envy_layout.proofs.Owners.{owner_in-false}
+use Rattle.envy_soundness.specs.Same.{Framed, Shadowed, Dropped, Counted, Wears}
+use Rattle.envy_soundness.specs.Sound.{Sound, Slots, is_active, owned_by, slot_named}
+use Rattle.envy_meaning.specs.Stands.{Stands}
+use Rattle.envy_soundness.proofs.Composition.{cause}
+use Rattle.envy_meaning.proofs.Owners.{owner_in-false}
 use Rattle.envy_memory.proofs.Slots.{slot-within}
 use Rattle.envy_txn.specs.Owners.{Ownership, owner_of, owner_in}
-use Rattle.envy_flush.specs.Storing.{StaysFramed, Fetches, Brings}
-use Rattle.envy_flush.specs.Putting.{ShadesFramed, ShadesElsewhere}
+use Rattle.envy_engine.specs.Storing.{StaysFramed, Fetches, Brings}
+use Rattle.envy_engine.specs.Putting.{ShadesFramed, ShadesElsewhere}
 use Rattle.envy_base.specs.declared.shape.Shape.{Shape}
 use Rattle.envy_memory.specs.Below.{IsPast}
 use Rattle.envy_memory.specs.Calls.{Works}

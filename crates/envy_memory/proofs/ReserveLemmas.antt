@@ -10,8 +10,8 @@ use Rattle.envy_base.specs.declared.shape.Shape.{Shape}
 use Rattle.envy_space.specs.Retiring.{IsFresh, LowestFresh}
 use Rattle.envy_space.proofs.SpaceLemmas.{sum_by-range_more}
 use Rattle.envy_map.specs.Fields.{Chart}
-use Rattle.envy_flush.specs.Agreement.{PartsAgree}
-use Rattle.envy_flush.specs.declared.parts.Parts.{Parts}
+use Rattle.envy_engine.specs.Agreement.{PartsAgree}
+use Rattle.envy_engine.specs.declared.parts.Parts.{Parts}
 use Rattle.envy_memory.specs.Reserves.{is_fresh, fresh_in, left, retired, retired_in}
 
 one-of : (b : Bool) → cond b 1 0 + cond (not b) 1 0 ≡ 1

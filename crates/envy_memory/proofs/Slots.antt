@@ -2,8 +2,8 @@
 use Rattle.std.proofs.Common.{◌≡◌, ◌<◌, ℕ, subst, sym}
 use Rattle.envy_base.specs.Shape.{version_of}
 use Rattle.envy_base.specs.declared.shape.Shape.{Shape}
-use Rattle.envy_layout.specs.Sound.{slots_of}
-use Rattle.envy_layout.proofs.Formed.{slots-all}
+use Rattle.envy_soundness.specs.Sound.{slots_of}
+use Rattle.envy_soundness.proofs.Formed.{slots-all}
 
 pub slot-low : (sh : Shape) (version t : ℕ) → version ≡ version_of sh → t < 64 → t < slots_of version
 slot-low sh version t is low = subst (λ (n : ℕ). t < n) (slots-all sh version is) low

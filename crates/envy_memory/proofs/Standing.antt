@@ -1,12 +1,12 @@
 -- What a board that stands for an array says of its words.
 use Rattle.std.proofs.Common.{◌≡◌, ℕ, ◌/◌, ◌%◌, ◌<◌, ◌≤◌, List, length, get_or, Option, Some, sym, ◌∙◌, ap, arith}
-use Rattle.envy_base.specs.Array.{Array, undone}
+use Rattle.envy_array.specs.Array.{Array, undone}
 use Rattle.envy_base.specs.declared.fields.Place.{Place}
 use Rattle.envy_map.specs.Fields.{Chart, place}
-use Rattle.envy_layout.specs.Stands.{Holds, Stands}
-use Rattle.envy_layout.specs.Words.{word_at, live_word, durable_word, kept, durable}
-use Rattle.envy_layout.proofs.Standing.{length-stands}
-use Rattle.envy_layout.proofs.WordLists.{get_or-words}
+use Rattle.envy_meaning.specs.Stands.{Holds, Stands}
+use Rattle.envy_soundness.specs.Words.{word_at, live_word, durable_word, kept, durable}
+use Rattle.envy_meaning.proofs.Standing.{length-stands}
+use Rattle.envy_soundness.proofs.WordLists.{get_or-words}
 
 pub beyond : (c : Chart) (m : Array) (a : ℕ) → Stands c m → c.shape.pages ≤ a / 32 → length m.words ≤ a
 beyond c m a s le = let long = length-stands c m s in omega arith

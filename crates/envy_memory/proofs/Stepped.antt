@@ -1,8 +1,8 @@
 -- What every command leaves of an array, and what a failure of power leaves of it.
 use Rattle.std.proofs.Common.{◌≡◌, inl, inr, ℕ, refl, sym, ap, subst}
-use Rattle.envy_base.specs.Array.{Array, undone}
-use Rattle.envy_base.specs.Step.{Command, Answer, Step, Lost as LostAs, Load, Look, Store, Begin, Put, Commit, Abort, Tick}
-use Rattle.envy_base.specs.Step.{Word as IsWord, Done as IsDone, Started as IsStarted, Range as IsRange, Held as IsHeld, Closed as IsClosed, Full as IsFull, Busy as IsBusy}
+use Rattle.envy_array.specs.Array.{Array, undone}
+use Rattle.envy_array.specs.Step.{Command, Answer, Step, Lost as LostAs, Load, Look, Store, Begin, Put, Commit, Abort, Tick}
+use Rattle.envy_array.specs.Step.{Word as IsWord, Done as IsDone, Started as IsStarted, Range as IsRange, Held as IsHeld, Closed as IsClosed, Full as IsFull, Busy as IsBusy}
 use Rattle.envy_memory.specs.Calls.{fresh}
 
 -- no command changes how many pages may be owned

@@ -7,11 +7,11 @@ use Rattle.envy_base.specs.declared.fields.Place.{Place}
 use Rattle.envy_base.specs.declared.fields.Place.TheVariants.{Frame}
 use Rattle.envy_base.specs.declared.shape.Shape.{Shape}
 use Rattle.envy_map.specs.Fields.{Chart, undo, place}
-use Rattle.envy_layout.specs.Same.{Interrupted, Stored}
-use Rattle.envy_layout.specs.Sound.{owned_by}
-use Rattle.envy_layout.proofs.Composition.{cause}
+use Rattle.envy_soundness.specs.Same.{Interrupted, Stored}
+use Rattle.envy_soundness.specs.Sound.{owned_by}
+use Rattle.envy_soundness.proofs.Composition.{cause}
 use Rattle.envy_txn.specs.Owners.{owner_of}
-use Rattle.envy_flush.specs.Storing.{StaysFramed, StoresBy, Fetches, Brings}
+use Rattle.envy_engine.specs.Storing.{StaysFramed, StoresBy, Fetches, Brings}
 use Rattle.envy_memory.specs.Below.{IsOwned, IsPast}
 use Rattle.envy_memory.specs.Calls.{Works}
 use Rattle.envy_memory.specs.Picture.{Picture, IsMemory}

@@ -1,27 +1,27 @@
 -- What holds of a memory after a background step.
 use Rattle.std.proofs.Common.{◌≡◌, inl, inr, false, ℕ, refl, arith}
 use Rattle.std.specs.Prelude.{IsTrue, Result, Ok, Err, IsErrOf, ◌↔◌}
-use Rattle.envy_base.specs.Array.{Array}
-use Rattle.envy_base.specs.Step.{Tick, Done}
+use Rattle.envy_array.specs.Array.{Array}
+use Rattle.envy_array.specs.Step.{Tick, Done}
 use Rattle.envy_base.specs.declared.board.Trouble.{Trouble}
 use Rattle.envy_base.specs.declared.board.Trouble.TheVariants.{Off as TroubleOff, Bad as TroubleBad}
 use Rattle.envy_map.specs.Fields.{Chart}
-use Rattle.envy_layout.specs.Same.{Same, Stays, Counted}
-use Rattle.envy_layout.specs.Stands.{Stands, IsLost}
-use Rattle.envy_layout.proofs.Standing.{Stands-same, IsLost-same}
-use Rattle.envy_layout.proofs.Composition.{Counted-more}
+use Rattle.envy_soundness.specs.Same.{Same, Stays, Counted}
+use Rattle.envy_meaning.specs.Stands.{Stands, IsLost}
+use Rattle.envy_meaning.proofs.Standing.{Stands-same, IsLost-same}
+use Rattle.envy_soundness.proofs.Composition.{Counted-more}
 use Rattle.envy_policy.specs.declared.choice.Choice.{Choice}
 use Rattle.envy_policy.specs.declared.choice.Choice.TheVariants.{Free, Clean}
 use Rattle.envy_reloc.specs.Phases.{SameOnce}
 use Rattle.envy_reloc.specs.declared.step.Phase.{Phase}
 use Rattle.envy_reloc.specs.declared.step.Phase.TheVariants.{Moved as MovedPhase, Copied as CopiedPhase, Switched as SwitchedPhase, Placed as PlacedPhase, Erased as ErasedPhase}
-use Rattle.envy_flush.specs.Agreement.{Steady}
-use Rattle.envy_flush.specs.Storing.{Leaves}
-use Rattle.envy_flush.specs.Steps.{did_of, TicksStage}
-use Rattle.envy_flush.specs.Ticks.{TicksBy, TicksFlush, TicksChoice, TicksSwap}
-use Rattle.envy_flush.specs.declared.did.Did.{Did}
-use Rattle.envy_flush.specs.declared.did.Did.TheVariants.{Idle, Flushed, Began, Moved, Copied, Switched, Placed, Erased}
-use Rattle.envy_flush.specs.declared.parts.Parts.{Parts}
+use Rattle.envy_engine.specs.Agreement.{Steady}
+use Rattle.envy_engine.specs.Storing.{Leaves}
+use Rattle.envy_engine.specs.Steps.{did_of, TicksStage}
+use Rattle.envy_engine.specs.Ticks.{TicksBy, TicksFlush, TicksChoice, TicksSwap}
+use Rattle.envy_engine.specs.declared.did.Did.{Did}
+use Rattle.envy_engine.specs.declared.did.Did.TheVariants.{Idle, Flushed, Began, Moved, Copied, Switched, Placed, Erased}
+use Rattle.envy_engine.specs.declared.parts.Parts.{Parts}
 use Rattle.envy_memory.specs.Calls.{Ticks, IsCut, HasFailed, Undisturbed}
 use Rattle.envy_memory.proofs.EndLemmas.{undisturbed-on}
 use Rattle.envy_memory.specs.Effects.{IsIdle, TicksOnce}

@@ -4,18 +4,18 @@ use Rattle.std.specs.Prelude.{◌&&◌, ◌==◌, IsTrue, Result, Ok, Err, repli
 use Rattle.std.proofs.Math.Logic.{∥∥₁_elim, ∥∥₁_map}
 use Rattle.std.proofs.Props.{props}
 use Rattle.std.proofs.lemmas.Bool.{cases_eq, eq-eqb, ne_eqb, or_cases, or_left, or_right}
-use Rattle.envy_base.specs.Array.{Array, Saved, slot_of, undone, undo_all, owns, owner, put, put_back, saving, is_closed, page_of}
-use Rattle.envy_base.specs.Step.{Answer, Step, Lost, Begin, Put, Done, Started, Range, Held, Closed, Full, Busy}
-use Rattle.envy_base.specs.Words.{Works as SheetWorks, OnPage, Keeps, has}
+use Rattle.envy_array.specs.Array.{Array, Saved, slot_of, undone, undo_all, owns, owner, put, put_back, saving, is_closed, page_of}
+use Rattle.envy_array.specs.Step.{Answer, Step, Lost, Begin, Put, Done, Started, Range, Held, Closed, Full, Busy}
+use Rattle.envy_array.specs.Words.{Works as SheetWorks, OnPage, Keeps, has}
 use Rattle.envy_base.specs.declared.fields.Slot.TheVariants.{Active, Vacant}
 use Rattle.envy_base.specs.declared.shape.Shape.{Shape}
-use Rattle.envy_base.proofs.Owning.{owner-Some}
-use Rattle.envy_base.proofs.Undoing.{undo_all-closed, undone-begun, undone-put}
-use Rattle.envy_base.proofs.Undoing.{has as has-address}
+use Rattle.envy_array.proofs.Owning.{owner-Some}
+use Rattle.envy_array.proofs.Undoing.{undo_all-closed, undone-begun, undone-put}
+use Rattle.envy_array.proofs.Undoing.{has as has-address}
 use Rattle.envy_map.specs.Fields.{Chart, slot}
-use Rattle.envy_layout.specs.Same.{Counted}
-use Rattle.envy_layout.specs.Stands.{Holds, Stands, Steps, IsLost, slot_word}
-use Rattle.envy_layout.specs.Words.{durable}
+use Rattle.envy_soundness.specs.Same.{Counted}
+use Rattle.envy_meaning.specs.Stands.{Holds, Stands, Steps, IsLost, slot_word}
+use Rattle.envy_soundness.specs.Words.{durable}
 use Rattle.envy_txn.specs.Owners.{Ownership, owner_of}
 use Rattle.envy_txn.specs.declared.pair.Pair.{Pair}
 use Rattle.envy_memory.proofs.Facts.{none-open, on-from}
@@ -88,6 +88,7 @@ sheet-works k i j p q b w cut kept few seen = record {
   kept = kept;
   room = ap (λ (sh : Shape). sh.shadows) w.shape;
   fixed = fixed-same i j p.chart q.chart w.shape w.counted;
+  notes = Counted.notes w.counted;
   cuts = Counted.cuts w.counted;
   bads = Counted.bads w.counted;
   dark = dark-works i j p.chart q.chart w;
@@ -104,6 +105,7 @@ sheet-keeps i j p q b d w cut = record {
   long = words_long (q.chart.on && d) q.chart ∙ ap (λ (sh : Shape). 32 * sh.pages) w.shape ∙ sym (words_long (p.chart.on && b) p.chart);
   room = ap (λ (sh : Shape). sh.shadows) w.shape;
   fixed = fixed-same i j p.chart q.chart w.shape w.counted;
+  notes = Counted.notes w.counted;
   cuts = Counted.cuts w.counted;
   bads = Counted.bads w.counted;
   dark = dark-works i j p.chart q.chart w;

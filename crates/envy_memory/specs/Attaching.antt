@@ -3,12 +3,12 @@ use Rattle.std.specs.Prelude.{◌≡◌, ◌≢◌, ◌⊎◌, ◌-◌, ◌^◌,
 use Rattle.envy_base.specs.Shape.{version_of}
 use Rattle.envy_base.specs.State.{State}
 use Rattle.envy_map.specs.Fields.{Chart, chart, with_fields, IsFormatted, shape_of}
-use Rattle.envy_layout.specs.Same.{Kept}
-use Rattle.envy_layout.specs.Sound.{IsSound}
-use Rattle.envy_layout.specs.Stands.{Stands}
-use Rattle.envy_layout.specs.Upgrading.{upgraded}
-use Rattle.envy_layout.specs.Words.{durable}
-use Rattle.envy_flush.specs.Restarts.{IsRestarted}
+use Rattle.envy_soundness.specs.Same.{Kept}
+use Rattle.envy_soundness.specs.Sound.{IsSound}
+use Rattle.envy_meaning.specs.Stands.{Stands}
+use Rattle.envy_soundness.specs.Upgrading.{upgraded}
+use Rattle.envy_soundness.specs.Words.{durable}
+use Rattle.envy_engine.specs.Restarts.{IsRestarted}
 use Rattle.envy_policy.specs.Setup.{checked}
 use Rattle.envy_policy.specs.declared.setup.Setup.{Setup}
 use Rattle.envy_memory.specs.Calls.{fresh}

@@ -8,12 +8,12 @@ use Rattle.envy_base.specs.declared.fields.Slot.TheVariants.{Active}
 use Rattle.envy_map.specs.Fields.{slot as slot_of, undo as undo_of}
 use Rattle.envy_map.specs.Writes.{with_slot}
 use Rattle.envy_table.specs.Hits.{Rests}
-use Rattle.envy_flush.specs.Counts.{Counting}
-use Rattle.envy_flush.specs.Flushing.{Ends, Stops}
-use Rattle.envy_flush.specs.Storing.{Rows, StoresBy}
-use Rattle.envy_flush.specs.Ticks.{TicksBy, TicksBad, CountsTick}
-use Rattle.envy_flush.specs.declared.did.Did.{Did}
-use Rattle.envy_flush.specs.declared.did.Did.TheVariants.{Idle}
+use Rattle.envy_engine.specs.Counts.{Counting}
+use Rattle.envy_engine.specs.Flushing.{Ends, Stops}
+use Rattle.envy_engine.specs.Storing.{Rows, StoresBy}
+use Rattle.envy_engine.specs.Ticks.{TicksBy, TicksBad, CountsTick}
+use Rattle.envy_engine.specs.declared.did.Did.{Did}
+use Rattle.envy_engine.specs.declared.did.Did.TheVariants.{Idle}
 use Rattle.envy_txn.specs.Owners.{owner_of, names_slot, others_of}
 use Rattle.envy_memory.specs.Calls.{Works}
 use Rattle.envy_memory.specs.Effects.{LoadVisits, StoreVisits, PutVisits, PutEffect, Counts, IsIdle, TicksOnce, flushes_after, is_unowned}

@@ -1,15 +1,15 @@
 -- What each call of a memory may answer, and what it leaves, from a board that stood for the array m.
 use Rattle.std.specs.Prelude.{◌≡◌, ℕ, ◌-◌, ◌^◌, ◌<◌, true, false, IsTrue, List, replicate, None, Some, Result, Ok, Err}
-use Rattle.envy_base.specs.Array.{Array}
+use Rattle.envy_array.specs.Array.{Array}
 use Rattle.envy_base.specs.Counting.{up}
-use Rattle.envy_base.specs.Step.{Load, Look, Store, Begin, Put, Commit, Abort, Tick, Word, Done, Started, Range, Held, Closed, Full, Busy}
+use Rattle.envy_array.specs.Step.{Load, Look, Store, Begin, Put, Commit, Abort, Tick, Word, Done, Started, Range, Held, Closed, Full, Busy}
 use Rattle.envy_base.specs.declared.faults.PlannedFault.{PlannedFault}
 use Rattle.envy_base.specs.declared.board.Trouble.{Trouble}
 use Rattle.envy_base.specs.declared.board.Trouble.TheVariants.{Off as TroubleOff, Bad as TroubleBad}
 use Rattle.envy_map.specs.Fields.{Chart}
-use Rattle.envy_layout.specs.Same.{Counted, Wears}
-use Rattle.envy_layout.specs.Stands.{Steps, IsLost, Fails}
-use Rattle.envy_flush.specs.declared.did.Did.{Did}
+use Rattle.envy_soundness.specs.Same.{Counted, Wears}
+use Rattle.envy_meaning.specs.Stands.{Steps, IsLost, Fails}
+use Rattle.envy_engine.specs.declared.did.Did.{Did}
 use Rattle.envy_memory.specs.declared.faults.LoadFault.{LoadFault}
 use Rattle.envy_memory.specs.declared.faults.LoadFault.TheVariants.{Off as LoadOff, Range as LoadRange}
 use Rattle.envy_memory.specs.declared.faults.StoreFault.{StoreFault}

@@ -5,11 +5,11 @@ use Rattle.envy_base.specs.declared.fields.Job.TheVariants.{Idle as IdleJob}
 use Rattle.envy_base.specs.declared.fields.Place.{Place}
 use Rattle.envy_base.specs.declared.fields.Place.TheVariants.{Absent, Row, Frame}
 use Rattle.envy_map.specs.Fields.{Chart, place}
-use Rattle.envy_flush.specs.Counts.{Counting}
+use Rattle.envy_engine.specs.Counts.{Counting}
 use Rattle.envy_table.specs.Hits.{Accesses}
-use Rattle.envy_flush.specs.Putting.{PutsBy}
-use Rattle.envy_flush.specs.Storing.{StoresBy}
-use Rattle.envy_flush.specs.Ticks.{IsNoneDue}
+use Rattle.envy_engine.specs.Putting.{PutsBy}
+use Rattle.envy_engine.specs.Storing.{StoresBy}
+use Rattle.envy_engine.specs.Ticks.{IsNoneDue}
 use Rattle.envy_txn.specs.Owners.{Ownership, owner_of}
 use Rattle.envy_memory.specs.Calls.{Works}
 use Rattle.envy_memory.specs.Picture.{Picture}

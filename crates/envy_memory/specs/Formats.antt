@@ -1,13 +1,13 @@
 -- What formatting may answer, and what it leaves.
 use Rattle.std.specs.Prelude.{◌≡◌, ◌≢◌, ◌⊎◌, ℕ, ◌+◌, ◌-◌, ◌^◌, ◌<◌, false, IsTrue, [], length, slice_index, Ok, Err}
-use Rattle.envy_base.specs.Array.{zeros}
+use Rattle.envy_array.specs.Array.{zeros}
 use Rattle.envy_base.specs.Counting.{up}
 use Rattle.envy_base.specs.State.{State}
-use Rattle.envy_base.specs.declared.counts.Counts.{Counts}
+use Rattle.envy_array.specs.declared.counts.Counts.{Counts}
 use Rattle.envy_map.specs.Fields.{Chart, chart}
-use Rattle.envy_layout.specs.Formatting.{IsEmpty, Spoils, aside}
-use Rattle.envy_layout.specs.Same.{Counted}
-use Rattle.envy_layout.specs.Stands.{Holds, Stands}
+use Rattle.envy_soundness.specs.Formatting.{IsEmpty, Spoils, aside}
+use Rattle.envy_soundness.specs.Same.{Counted}
+use Rattle.envy_meaning.specs.Stands.{Holds, Stands}
 use Rattle.envy_frames.specs.Agreement.{held_by_default}
 use Rattle.envy_policy.specs.History.{started}
 use Rattle.envy_policy.specs.Setup.{checked}

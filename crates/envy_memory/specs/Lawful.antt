@@ -1,8 +1,8 @@
 -- The words of a memory with one transaction are as those of any memory of words.
 use Rattle.std.specs.Prelude.{◌≡◌, ℕ, ◌*◌, ◌^◌, ◌<◌, ◌&&◌, Bool, true, false, length}
 use Rattle.std.proofs.Common.{sym, ◌∙◌, ap, refl, subst}
-use Rattle.envy_base.specs.Words.{IsSheet}
-use Rattle.envy_layout.proofs.WordLists.{length-live, length-durable}
+use Rattle.envy_array.specs.Words.{IsSheet}
+use Rattle.envy_soundness.proofs.WordLists.{length-live, length-durable}
 use Rattle.envy_map.specs.Fields.{Chart}
 use Rattle.envy_memory.specs.Picture.{Picture}
 use Rattle.envy_memory.specs.Sheets.{words_read, sheet_of}

@@ -1,10 +1,10 @@
 -- Runs of words that are loaded: so many at an address and behind it.
 use Rattle.std.specs.Prelude.{◌≡◌, ◌≢◌, ℕ, zero, suc, ◌+◌, ◌/◌, ◌<◌, List, length, slice_index, Result, Ok, Err}
-use Rattle.envy_base.specs.Array.{Array}
-use Rattle.envy_base.specs.Step.{Load, Word, Range}
+use Rattle.envy_array.specs.Array.{Array}
+use Rattle.envy_array.specs.Step.{Load, Word, Range}
 use Rattle.envy_map.specs.Fields.{Chart}
-use Rattle.envy_layout.specs.Stands.{Steps}
-use Rattle.envy_layout.specs.Words.{live}
+use Rattle.envy_meaning.specs.Stands.{Steps}
+use Rattle.envy_soundness.specs.Words.{live}
 use Rattle.envy_table.specs.Entries.{Translations}
 use Rattle.envy_table.specs.Hits.{Accesses}
 use Rattle.envy_memory.specs.Runs.{last_of}

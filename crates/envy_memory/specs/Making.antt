@@ -4,8 +4,8 @@ use Rattle.envy_frames.specs.Agreement.{held_by_default}
 use Rattle.envy_map.specs.Fields.{Chart}
 use Rattle.envy_policy.specs.History.{started}
 use Rattle.envy_table.specs.Hits.{Empties}
-use Rattle.envy_flush.specs.Restarts.{SameCounts}
-use Rattle.envy_flush.specs.declared.parts.Parts.{Parts}
+use Rattle.envy_engine.specs.Restarts.{SameCounts}
+use Rattle.envy_engine.specs.declared.parts.Parts.{Parts}
 
 -- Parts that were read anew from a board: the counts stay.
 pub record StartsAnew (was : Parts) (c : Chart) (now : Parts) : Type 0 where

@@ -1,14 +1,14 @@
 -- What a client sees of a memory, and what holds of each.
 use Rattle.std.specs.Prelude.{◌≡◌, ◌≢◌, ℕ, ◌≤◌, IsTrue, List, Some}
 use Rattle.envy_base.specs.Shape.{version_of}
-use Rattle.envy_base.specs.declared.counts.Counts.{Counts}
+use Rattle.envy_array.specs.declared.counts.Counts.{Counts}
 use Rattle.envy_base.specs.declared.fields.Slot.TheVariants.{Committed}
 use Rattle.envy_base.specs.State.{State}
 use Rattle.envy_map.specs.Codes.{the_magic}
 use Rattle.envy_map.specs.Fields.{Chart, slot}
-use Rattle.envy_layout.specs.Sound.{IsSound}
-use Rattle.envy_flush.specs.Agreement.{Fits, PartsAgree}
-use Rattle.envy_flush.specs.declared.parts.Parts.{Parts}
+use Rattle.envy_soundness.specs.Sound.{IsSound}
+use Rattle.envy_engine.specs.Agreement.{Fits, PartsAgree}
+use Rattle.envy_engine.specs.declared.parts.Parts.{Parts}
 use Rattle.envy_txn.specs.Owners.{Ownership, AreOwned}
 
 -- The board read by its map; the held frames, the pool, the cache's entries, heats, turns and lives, the moves and the
@@ -38,6 +38,7 @@ state_in p = record {
   last_plan = p.chart.last_plan;
   lives = p.chart.lives;
   given = p.chart.given;
+  notes = p.chart.notes;
 }
 
 -- the seven counters

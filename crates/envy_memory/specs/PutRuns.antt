@@ -1,7 +1,7 @@
 -- Runs of words that a transaction puts: so many at an address and behind it.
 use Rattle.std.specs.Prelude.{◌≡◌, ◌≢◌, ◌↔◌, ◌⊎◌, ℕ, zero, suc, ◌+◌, ◌<◌, Bool, true, false, IsErrOf, List, length, slice_index, Result, Ok, Err}
-use Rattle.envy_base.specs.Array.{Array}
-use Rattle.envy_layout.specs.Stands.{Stands}
+use Rattle.envy_array.specs.Array.{Array}
+use Rattle.envy_meaning.specs.Stands.{Stands}
 use Rattle.envy_memory.specs.Below.{IsPast, IsShutTo, IsKeptFrom, IsFull, PutsBelow}
 use Rattle.envy_memory.specs.Calls.{Puts, Works, IsCut, HasFailed, Undisturbed}
 use Rattle.envy_memory.specs.Picture.{Picture}

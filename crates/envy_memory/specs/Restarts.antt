@@ -3,7 +3,7 @@ use Rattle.std.specs.Prelude.{◌≡◌, []}
 use Rattle.envy_frames.specs.Agreement.{held_by_default}
 use Rattle.envy_policy.specs.History.{started}
 use Rattle.envy_table.specs.Hits.{Empties}
-use Rattle.envy_flush.specs.Restarts.{IsRestarted}
+use Rattle.envy_engine.specs.Restarts.{IsRestarted}
 use Rattle.envy_memory.specs.Calls.{lit}
 use Rattle.envy_memory.specs.Picture.{Picture}
 

@@ -1,13 +1,13 @@
 -- A memory with one transaction at a time, as words.
 use Rattle.std.specs.Prelude.{◌≡◌, ℕ, ◌&&◌, Bool, true, false, List, [], ◌∷◌, map, sum, replicate, Option, None, Some}
-use Rattle.envy_base.specs.Array.{Array, Saved}
-use Rattle.envy_base.specs.Words.{Sheet, Work}
+use Rattle.envy_array.specs.Array.{Array, Saved}
+use Rattle.envy_array.specs.Words.{Sheet, Work}
 use Rattle.envy_base.specs.declared.faults.PlannedFault.{PlannedFault}
 use Rattle.envy_base.specs.declared.faults.PlannedFault.TheVariants.{Cut, Bad}
 use Rattle.envy_base.specs.declared.shape.Shape.{Shape}
 use Rattle.envy_map.specs.Fields.{Chart}
-use Rattle.envy_layout.specs.Stands.{Stands}
-use Rattle.envy_layout.specs.Words.{live, durable}
+use Rattle.envy_meaning.specs.Stands.{Stands}
+use Rattle.envy_soundness.specs.Words.{live, durable}
 use Rattle.envy_memory.specs.Below.{flush_programs, flush_erases}
 use Rattle.envy_memory.specs.Picture.{Picture}
 use Rattle.envy_txn.specs.declared.pair.Pair.{Pair}
@@ -46,6 +46,7 @@ sheet_of p begun = record {
   work = record { programs = p.chart.begun; erases = sum p.chart.erases };
   price = put_price p.chart.shape;
   fixed = fixed_of p.chart;
+  notes = p.chart.notes;
   beside = [];
   kept_beside = [];
 }

@@ -1,23 +1,23 @@
 ghost use Rattle.std.specs.Prelude.{◌≡◌, false, IsTrue, IsNone, OnOk, OnErr, MatchOption, MatchResult};
 ghost use Rattle.envy_base.specs.Shape.{version_of};
 ghost use Rattle.envy_map.specs.Fields.{chart, IsFormatted};
-ghost use Rattle.envy_layout.specs.Same.{Kept};
-ghost use Rattle.envy_layout.specs.Sound.{IsSound};
-ghost use Rattle.envy_layout.specs.Words.{live, durable};
+ghost use Rattle.envy_soundness.specs.Same.{Kept};
+ghost use Rattle.envy_soundness.specs.Sound.{IsSound};
+ghost use Rattle.envy_soundness.specs.Words.{live, durable};
 ghost use Rattle.envy_policy.specs.Setup.{IsSetup};
-ghost use Rattle.envy_flush.specs.Agreement.{Fits, Ready};
-ghost use Rattle.envy_flush.specs.Restarts.{IsSettled};
+ghost use Rattle.envy_engine.specs.Agreement.{Fits, Ready};
+ghost use Rattle.envy_engine.specs.Restarts.{IsSettled};
 ghost use Rattle.envy_memory.specs.Attaching.{IsAttachable, MayAttach, Raises, IsTakenUp, Attaches, Declines};
 ghost use Rattle.envy_memory.specs.Making.{StartsAnew};
 
 use crate::faults::AttachFault;
-use crate::making::make_parts;
 use crate::memory::Memory;
+use crate::new_parts::make_parts;
 use envy_base::{Board, Off};
-use envy_flush::{Parts, restart};
-use envy_layout::upgrade;
+use envy_engine::{Parts, restart};
 use envy_map::{is_formatted, kept_shape, version};
 use envy_policy::Setup;
+use envy_soundness::upgrade;
 use std::alloc::Global;
 
 /// The first reason not to attach a memory to a board, but for want of memory.

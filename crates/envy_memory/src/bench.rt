@@ -1,9 +1,9 @@
 ghost use Rattle.std.specs.Prelude.{◌≡◌, ◌↔◌, ◌-◌, ◌^◌, ◌<◌, ◌≤◌, ◌⊎◌, true, false, IsTrue, OnOk, length, MatchResult, Ok, Err};
-ghost use Rattle.envy_base.specs.Array.{Array, undone};
-ghost use Rattle.envy_layout.specs.Same.{Kept};
-ghost use Rattle.envy_layout.specs.Sound.{IsSound};
-ghost use Rattle.envy_layout.specs.Stands.{Stands};
-ghost use Rattle.envy_layout.specs.Words.{durable};
+ghost use Rattle.envy_array.specs.Array.{Array, undone};
+ghost use Rattle.envy_soundness.specs.Same.{Kept};
+ghost use Rattle.envy_soundness.specs.Sound.{IsSound};
+ghost use Rattle.envy_meaning.specs.Stands.{Stands};
+ghost use Rattle.envy_soundness.specs.Words.{durable};
 ghost use Rattle.envy_memory.specs.Calls.{fresh, lit, planned, pulled};
 ghost use Rattle.envy_memory.specs.Picture.{counts_of};
 ghost use Rattle.envy_memory.specs.Restarts.{Restarts};
@@ -11,7 +11,7 @@ ghost use Rattle.envy_memory.specs.Restarts.{Restarts};
 use crate::faults::ReviveFault;
 use crate::memory::Memory;
 use envy_base::{Bench, PlannedFault};
-use envy_flush::restart;
+use envy_engine::restart;
 
 impl<B: Bench> Memory<B> {
     /// Plans a cut of power at the `k`-th device operation from now.

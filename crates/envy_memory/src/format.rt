@@ -1,20 +1,20 @@
 ghost use Rattle.std.specs.Prelude.{◌≡◌, IsNone, OnOk, MatchOption, MatchResult};
 ghost use Rattle.envy_base.specs.Shape.{version_of};
 ghost use Rattle.envy_map.specs.Fields.{chart};
-ghost use Rattle.envy_layout.specs.Formatting.{AreErasedOnce, Formats};
-ghost use Rattle.envy_layout.specs.Same.{Counted};
+ghost use Rattle.envy_soundness.specs.Formatting.{AreErasedOnce, Formats};
+ghost use Rattle.envy_soundness.specs.Same.{Counted};
 ghost use Rattle.envy_policy.specs.Setup.{IsSetup};
-ghost use Rattle.envy_flush.specs.Agreement.{Fits, Ready};
+ghost use Rattle.envy_engine.specs.Agreement.{Fits, Ready};
 ghost use Rattle.envy_memory.specs.Formats.{MayFormat, Makes, CountsFormat, Refuses};
 ghost use Rattle.envy_memory.specs.Making.{StartsAnew};
 
 use crate::faults::FormatFault;
-use crate::making::make_parts;
 use crate::memory::Memory;
+use crate::new_parts::make_parts;
 use envy_base::{Board, Trouble};
-use envy_flush::{Parts, rebuild};
-use envy_layout::format_board;
+use envy_engine::{Parts, rebuild};
 use envy_policy::Setup;
+use envy_soundness::format_board;
 use std::alloc::Global;
 
 /// The first reason not to begin to format a board, but for want of memory.

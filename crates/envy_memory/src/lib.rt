@@ -6,25 +6,25 @@
 
 mod attach;
 mod bench;
-mod ending;
 mod faults;
 mod format;
+mod kept_place;
 mod laws;
 mod load_runs;
-mod looking;
-mod making;
 mod memory;
+mod new_parts;
 mod one_tx;
+mod put;
 mod put_runs;
-mod putting;
 mod reserves;
 mod rooms;
+mod store;
 mod store_runs;
-mod storing;
-mod syncing;
-mod ticking;
+mod sync;
+mod tick;
+mod transaction;
 
-pub use envy_flush::Did;
+pub use envy_engine::Did;
 pub use faults::{
     AttachFault, BeginFault, EndFault, FormatFault, LoadFault, PutFault, ReviveFault, StoreFault,
 };

@@ -1,9 +1,9 @@
 ghost use Rattle.std.specs.Prelude.{◌≡◌, ◌↔◌, ◌+◌, ◌*◌, ◌/◌, ◌%◌, ◌<◌, ◌≤◌, ℕ, false, IsTrue, Some, OnOk, OnErr, length, slice_index};
-ghost use Rattle.envy_base.specs.Array.{Array};
+ghost use Rattle.envy_array.specs.Array.{Array};
 ghost use Rattle.envy_map.specs.Fields.{chart};
-ghost use Rattle.envy_layout.specs.Stands.{Stands};
-ghost use Rattle.envy_layout.specs.Words.{word_at};
-ghost use Rattle.envy_flush.specs.Pages.{InRange};
+ghost use Rattle.envy_meaning.specs.Stands.{Stands};
+ghost use Rattle.envy_soundness.specs.Words.{word_at};
+ghost use Rattle.envy_engine.specs.Pages.{InRange};
 ghost use Rattle.envy_table.specs.Hits.{Accesses};
 ghost use Rattle.envy_memory.specs.LoadRuns.{AreLive, Crosses, FillsPage, LoadsRun};
 ghost use Rattle.envy_memory.specs.Runs.{RunsPast, pages_met};
@@ -11,7 +11,7 @@ ghost use Rattle.envy_memory.specs.Runs.{RunsPast, pages_met};
 use crate::faults::LoadFault;
 use crate::memory::Memory;
 use envy_base::{Board, Off, PAGE_LENGTH, PAGE_WORDS, Place};
-use envy_flush::word;
+use envy_engine::word;
 
 // The words of a page that is there, from its word `first` on.
 #[inline(always)]
@@ -55,7 +55,7 @@ impl<B: Board> Memory<B> {
         if !self.powered() {
             return Err(LoadFault::Off);
         }
-        self.known();
+        self.invariant_holds();
         let words = PAGE_WORDS * self.board.shape().pages;
         if into.len() > words.saturating_sub(a) as usize {
             return Err(LoadFault::Range);
@@ -77,7 +77,7 @@ impl<B: Board> Memory<B> {
             self.new.parts.cache }
         ensures kept { self.new ≡ record self.old { parts = record self.old.parts { cache = self.new.parts.cache } } }
     {
-        self.known();
+        self.invariant_holds();
         let last = a + (into.len() - 1) as u32;
         for page in a / PAGE_WORDS..last / PAGE_WORDS + 1 {
             self.load_part(page, a, into);
@@ -94,7 +94,7 @@ impl<B: Board> Memory<B> {
         ensures visits { Accesses page self.old.parts.cache self.new.parts.cache }
         ensures kept { self.new ≡ record self.old { parts = record self.old.parts { cache = self.new.parts.cache } } }
     {
-        self.known();
+        self.invariant_holds();
         let from = a.max(PAGE_WORDS * page);
         let to = (a + into.len() as u32).min(PAGE_WORDS * page + PAGE_WORDS);
         self.load_page(from, &mut into[(from - a) as usize..(to - a) as usize]);

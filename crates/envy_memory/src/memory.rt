@@ -1,19 +1,20 @@
 ghost use Rattle.std.specs.Prelude.{◌≡◌, ◌↔◌, ◌*◌, ◌≤◌, ◌<◌, ◌/◌, false, IsTrue, OnOk, MatchResult, slice_index, [], replicate, None};
-ghost use Rattle.envy_base.specs.Array.{Array};
+ghost use Rattle.envy_array.specs.Array.{Array};
 ghost use Rattle.envy_base.specs.Shape.{IsShape, version_of};
 ghost use Rattle.envy_map.specs.Codes.{the_magic};
 ghost use Rattle.envy_map.specs.Fields.{chart};
-ghost use Rattle.envy_layout.specs.Sound.{IsSound};
-ghost use Rattle.envy_layout.specs.Stands.{Stands};
-ghost use Rattle.envy_layout.specs.Words.{durable};
+ghost use Rattle.envy_soundness.specs.Sound.{IsSound};
+ghost use Rattle.envy_meaning.specs.Stands.{Stands};
+ghost use Rattle.envy_soundness.specs.Words.{durable};
 ghost use Rattle.envy_memory.specs.Calls.{Loads, Looks};
 ghost use Rattle.envy_memory.specs.Below.{LoadsBelow, IsPast};
 ghost use Rattle.envy_memory.specs.Picture.{IsMemory, counts_of, state_in};
 
 use crate::faults::LoadFault;
-use crate::looking::kept_place;
-use envy_base::{Board, Counts, PAGE_WORDS};
-use envy_flush::{Parts, word};
+use crate::kept_place::kept_place;
+use envy_array::Counts;
+use envy_base::{Board, PAGE_WORDS};
+use envy_engine::{Parts, word};
 use envy_txn::Owned;
 use std::marker::Model;
 
@@ -119,7 +120,7 @@ impl<B: Board> Memory<B> {
 
     /// What holds of each memory between its calls: its board is formatted and sound, and where power is on its parts
     /// agree with it. Where no slot is open, no page has an owner.
-    pub fn known(&self)
+    pub fn invariant_holds(&self)
         ensures memory { IsMemory self.now.chart self.now.parts self.now.owned self.now.limit self.now.mark }
         ensures shape { IsShape self.now.chart.shape }
         ensures magic { self.now.chart.fields.magic ≡ the_magic }

@@ -1,10 +1,10 @@
 ghost use Rattle.std.specs.Prelude.{◌≡◌, ◌↔◌, ◌⊎◌, ◌+◌, ◌*◌, ◌-◌, ◌^◌, ◌<◌, ◌≤◌, false, true, length, IsTrue, OnOk, MatchResult, [], replicate, None, Ok, Err};
-ghost use Rattle.envy_base.specs.Array.{Array};
+ghost use Rattle.envy_array.specs.Array.{Array};
 ghost use Rattle.envy_base.specs.Shape.{IsShape, version_of};
 ghost use Rattle.envy_base.specs.declared.page.TheConstants.{PAGE_WORDS};
-ghost use Rattle.envy_layout.specs.Same.{Kept};
-ghost use Rattle.envy_layout.specs.Stands.{Stands};
-ghost use Rattle.envy_layout.specs.Words.{durable};
+ghost use Rattle.envy_soundness.specs.Same.{Kept};
+ghost use Rattle.envy_meaning.specs.Stands.{Stands};
+ghost use Rattle.envy_soundness.specs.Words.{durable};
 ghost use Rattle.envy_map.specs.Codes.{the_magic};
 ghost use Rattle.envy_memory.specs.Calls.{fresh, lit, planned, pulled};
 ghost use Rattle.envy_memory.specs.Faults.{IsNoRefusal, trouble_of};
@@ -14,7 +14,8 @@ ghost use Rattle.envy_memory.specs.Sheets.{IsHeld, sheet_of};
 
 use crate::faults::{BeginFault, EndFault, LoadFault, PutFault, ReviveFault};
 use crate::memory::Memory;
-use envy_base::{Bench, Board, Off, PAGE_WORDS, PlannedFault, Trouble, Words};
+use envy_array::Words;
+use envy_base::{Bench, Board, Off, PAGE_WORDS, PlannedFault, Trouble};
 
 /// A memory with one transaction at a time, which has the first slot.
 pub struct OneTx<B: Board> {
@@ -31,7 +32,7 @@ impl<B: Board> OneTx<B> {
         ensures same { result.memory ≡ memory }
         ensures shut { result.begun ≡ false }
     {
-        memory.known();
+        memory.invariant_holds();
         OneTx {
             memory,
             begun: false,
@@ -45,7 +46,7 @@ impl<B: Board> OneTx<B> {
         ensures same { result.memory ≡ memory }
         ensures begun { IsTrue result.begun }
     {
-        memory.known();
+        memory.invariant_holds();
         OneTx {
             memory,
             begun: true,
@@ -70,7 +71,7 @@ impl<B: Board> OneTx<B> {
         ensures resumes { IsTrue (sheet_of self.memory self.begun).started
             → ∥ (IsTrue result.chart.on → IsHeld result.chart true) ∥₁ }
     {
-        self.memory.known();
+        self.memory.invariant_holds();
         let OneTx { memory, begun: _ } = self;
         memory
     }
@@ -173,7 +174,7 @@ impl<B: Board> Words for OneTx<B> {
     }
 
     fn start(&mut self) -> Result<(), Off> {
-        self.memory.known();
+        self.memory.invariant_holds();
         let begun = self.memory.begin();
         self.begun = true;
         match begun {

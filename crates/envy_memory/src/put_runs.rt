@@ -8,8 +8,8 @@ ghost use Rattle.envy_memory.specs.Runs.{StandsFor, is_more};
 use crate::faults::PutFault;
 use crate::memory::Memory;
 use envy_base::{Board, PAGE_WORDS, Place};
-use envy_layout::change_frame_word;
 use envy_map::place;
+use envy_soundness::change_frame_word;
 
 // Whether word `i` of a run is one more of a page that an earlier one was put to.
 #[inline(always)]
@@ -72,7 +72,7 @@ impl<B: Board> Memory<B> {
         ensures stands { OnOk result (StandsFor (Some t) ((a + i) / PAGE_WORDS) frame.new self.new) }
         ensures next { OnOk result (a + i + 1 < 2 ^ 32) }
     {
-        self.known();
+        self.invariant_holds();
         let at = a + i as u32;
         if is_one_more(a, i) {
             return self.put_more(at, *frame, value);

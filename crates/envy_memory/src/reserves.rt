@@ -44,7 +44,7 @@ impl<B: Board> Memory<B> {
         ensures tells { IfOk result (λ worn. TellsErases self.now.chart worn.left) }
         ensures power { MatchResult result (λ _. IsTrue self.now.chart.on) (λ _. self.now.chart.on ≡ false) }
     {
-        self.known();
+        self.invariant_holds();
         if !self.powered() {
             return Err(Off);
         }

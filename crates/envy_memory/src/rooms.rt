@@ -4,14 +4,14 @@ ghost use Rattle.envy_memory.specs.Rooms.{LacksRoom, pages_within, unowned};
 
 use crate::memory::Memory;
 use envy_base::{Board, PAGE_WORDS};
-use envy_flush::is_open;
+use envy_engine::is_open;
 
 impl<B: Board> Memory<B> {
     // How many pages more transactions may own.
     pub(crate) fn left(&self) -> u32
         ensures { length self.now.owned.pairs + result ≡ self.now.chart.shape.shadows }
     {
-        self.known();
+        self.invariant_holds();
         self.board.shape().shadows - self.owned.count()
     }
 
@@ -20,7 +20,7 @@ impl<B: Board> Memory<B> {
     pub(crate) fn lacks_room(&self, t: u8, a: u32, n: usize) -> bool
         ensures { IsTrue result ↔ LacksRoom t a n self.now }
     {
-        self.known();
+        self.invariant_holds();
         let pages = self.pages_within(a, n);
         let left = self.board.shape().shadows - self.owned.count();
         if pages <= left {
@@ -42,7 +42,7 @@ impl<B: Board> Memory<B> {
     fn pages_within(&self, a: u32, n: usize) -> u32
         ensures { result ≡ pages_within a n self.now.chart.shape.pages }
     {
-        self.known();
+        self.invariant_holds();
         let pages = self.board.shape().pages;
         let words = (PAGE_WORDS * pages).saturating_sub(a);
         let within = n.min(words as usize) as u32;

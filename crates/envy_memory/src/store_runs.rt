@@ -7,7 +7,7 @@ use crate::faults::StoreFault;
 use crate::memory::Memory;
 use crate::put_runs::is_one_more;
 use envy_base::{Board, PAGE_WORDS};
-use envy_layout::change_frame_word;
+use envy_soundness::change_frame_word;
 
 impl<B: Board> Memory<B> {
     /// Makes the words at an address and behind it these, outside any transaction, one after another, and answers how
@@ -46,7 +46,7 @@ impl<B: Board> Memory<B> {
         ensures stands { OnOk result (StandsFor None ((a + i) / PAGE_WORDS) frame.new self.new) }
         ensures next { OnOk result (a + i + 1 < 2 ^ 32) }
     {
-        self.known();
+        self.invariant_holds();
         let at = a + i as u32;
         if is_one_more(a, i) {
             return self.store_more(at, *frame, value);

@@ -1,10 +1,10 @@
 -- A command on a pair, put together.
 use Rattle.std.proofs.Common.{◌≡◌, ◌⊎◌, inl, inr, ℕ, ◌*◌, true, length, sym, ◌∙◌, ap, subst}
 use Rattle.std.proofs.lemmas.Bool.{or_cases}
-use Rattle.envy_base.specs.Array.{Array}
-use Rattle.envy_base.specs.Step.{Command}
+use Rattle.envy_array.specs.Array.{Array}
+use Rattle.envy_array.specs.Step.{Command}
 use Rattle.envy_base.specs.declared.shape.Shape.{Shape}
-use Rattle.envy_layout.proofs.Standing.{length-stands}
+use Rattle.envy_meaning.proofs.Standing.{length-stands}
 use Rattle.envy_memory.specs.Picture.{Picture}
 use Rattle.envy_mirror.specs.Asking.{Answers, AsksBoth, TellsBoth, replied}
 use Rattle.envy_mirror.specs.Mirroring.{Mirrors, Gives}

@@ -2,15 +2,15 @@
 use Rattle.std.proofs.Common.{◌≡◌, ◌≢◌, ◌⊎◌, inl, inr, ℕ, ◌+◌, ◌*◌, ◌/◌, ◌<◌, List, length, get_or, set, replicate, Option, None, Some, sym, ◌∙◌, ap, subst, arith}
 use Rattle.std.proofs.lemmas.Bool.{cases_eq}
 use Rattle.std.proofs.lemmas.List.{ext_get_or, get_or-set_same, get_or-set_other, length-replicate}
-use Rattle.envy_base.specs.Array.{Array, Saved, IsArray, owner, owns, slot_of, undone}
-use Rattle.envy_base.specs.Step.{Store, Done, Held}
+use Rattle.envy_array.specs.Array.{Array, Saved, IsArray, owner, owns, slot_of, undone}
+use Rattle.envy_array.specs.Step.{Store, Done, Held}
 use Rattle.envy_base.specs.declared.shape.Shape.{Shape}
-use Rattle.envy_base.proofs.Owning.{owner-nobody}
-use Rattle.envy_base.proofs.Undoing.{undo_all-closed}
+use Rattle.envy_array.proofs.Owning.{owner-nobody}
+use Rattle.envy_array.proofs.Undoing.{undo_all-closed}
 use Rattle.envy_map.specs.Fields.{Chart}
-use Rattle.envy_layout.specs.Stands.{Stands, Holds, Steps, Fails}
-use Rattle.envy_layout.specs.Words.{live, durable}
-use Rattle.envy_layout.proofs.WordLists.{length-live}
+use Rattle.envy_meaning.specs.Stands.{Stands, Holds, Steps, Fails}
+use Rattle.envy_soundness.specs.Words.{live, durable}
+use Rattle.envy_soundness.proofs.WordLists.{length-live}
 use Rattle.envy_memory.proofs.Facts.{none-open}
 use Rattle.envy_memory.specs.Calls.{fresh}
 use Rattle.envy_mirror.specs.Pair.{IsClosed}

@@ -2,22 +2,22 @@
 use Rattle.std.proofs.Common.{◌≡◌, ◌≢◌, ◌⊎◌, inl, inr, ℕ, ◌*◌, ◌/◌, ◌<◌, Bool, true, false, List, length, get_or, set, replicate, Option, None, Some, Result, Ok, Err, sym, ◌∙◌, ap, subst, arith}
 use Rattle.std.proofs.lemmas.Bool.{cases_eq}
 use Rattle.std.proofs.lemmas.List.{ext_get_or, get_or-replicate, length-replicate, get_or-set_other, length-set}
-use Rattle.envy_base.specs.Array.{Array, Saved, owner, slot_of, undone}
+use Rattle.envy_array.specs.Array.{Array, Saved, owner, slot_of, undone}
 use Rattle.envy_base.specs.declared.shape.Shape.{Shape}
-use Rattle.envy_base.proofs.Total.{option_cases}
+use Rattle.envy_array.proofs.Total.{option_cases}
 use Rattle.envy_map.specs.Fields.{Chart}
-use Rattle.envy_layout.specs.Stands.{Stands, Holds, slot_word}
-use Rattle.envy_layout.specs.Words.{live, durable}
-use Rattle.envy_layout.proofs.WordLists.{length-live}
-use Rattle.envy_layout.proofs.Standing.{length-stands}
+use Rattle.envy_meaning.specs.Stands.{Stands, Holds, slot_word}
+use Rattle.envy_soundness.specs.Words.{live, durable}
+use Rattle.envy_soundness.proofs.WordLists.{length-live}
+use Rattle.envy_meaning.proofs.Standing.{length-stands}
 use Rattle.envy_memory.specs.Calls.{fresh}
 use Rattle.envy_mirror.specs.Catching.{Helps, NoneOpen, NoneStale, IsLowestStale, Copies}
 use Rattle.envy_mirror.specs.Mirroring.{AgreesBy, Agrees, Mirrors, Trails, IsFreshAt}
 use Rattle.envy_mirror.specs.Pair.{Side, Pair, is_good, is_good_by, IsClosed, IsPair, IsSide, IsSideBy}
-use Rattle.envy_mirror.specs.declared.catching.Caught.{Caught}
-use Rattle.envy_mirror.specs.declared.catching.Caught.TheVariants.{Whole, Waiting, Woken, Copied, Joined}
-use Rattle.envy_mirror.specs.declared.catching.CatchFault.{CatchFault}
-use Rattle.envy_mirror.specs.declared.catching.CatchFault.TheVariants.{Off, Dead, Slipped, Bad}
+use Rattle.envy_mirror.specs.declared.catch_up.Caught.{Caught}
+use Rattle.envy_mirror.specs.declared.catch_up.Caught.TheVariants.{Whole, Waiting, Woken, Copied, Joined}
+use Rattle.envy_mirror.specs.declared.catch_up.CatchFault.{CatchFault}
+use Rattle.envy_mirror.specs.declared.catch_up.CatchFault.TheVariants.{Off, Dead, Slipped, Bad}
 use Rattle.envy_mirror.specs.declared.standing.Standing.{Standing}
 use Rattle.envy_mirror.specs.declared.standing.Standing.TheVariants.{Good, Behind, Gone}
 use Rattle.envy_mirror.proofs.Closing.{fresh-is, owner-fresh, undone-fresh}

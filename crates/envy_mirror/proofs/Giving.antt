@@ -1,9 +1,9 @@
 -- What a pair stands for once a command went to each Good side, by the replies.
 use Rattle.std.proofs.Common.{◌≡◌, ◌⊎◌, inl, inr, ◌*◌, Bool, true, false, List, length, Option, None, Some, refl, sym, ◌∙◌, ap, subst}
 use Rattle.std.proofs.lemmas.Bool.{cases_Bool}
-use Rattle.envy_base.specs.Array.{Array}
-use Rattle.envy_base.specs.Step.{Command, Load, Look, Store, Begin, Put, Commit, Abort, Tick, Answer, Word, Started, Done, Range, Held, Closed, Full, Busy, Step}
-use Rattle.envy_layout.specs.Stands.{Stands}
+use Rattle.envy_array.specs.Array.{Array}
+use Rattle.envy_array.specs.Step.{Command, Load, Look, Store, Begin, Put, Commit, Abort, Tick, Answer, Word, Started, Done, Range, Held, Closed, Full, Busy, Step}
+use Rattle.envy_meaning.specs.Stands.{Stands}
 use Rattle.envy_mirror.specs.Asking.{Reaches, heard, is_moving}
 use Rattle.envy_mirror.specs.Mirroring.{Mirrors, Gives, Trails}
 use Rattle.envy_mirror.specs.Pair.{Side, Pair, is_good, IsPair, IsDark, lasting}

@@ -1,7 +1,7 @@
 -- What holds of every pair goes on to hold once a command went to each Good side.
 use Rattle.std.proofs.Common.{◌≡◌, ◌⊎◌, inl, inr, ◌≤◌, Bool, true, false, length, Option, None, Some, refl, sym, ◌∙◌, ap, subst}
 use Rattle.std.specs.Prelude.{IsTrue, ◌&&◌, ◌↔◌, if◌then◌else◌}
-use Rattle.envy_base.specs.Step.{Command}
+use Rattle.envy_array.specs.Step.{Command}
 use Rattle.envy_base.specs.declared.shape.Shape.{Shape}
 use Rattle.envy_memory.proofs.Facts.{on-from}
 use Rattle.envy_mirror.specs.Asking.{Asked, Reckons, Reaches, heard, has_said, is_moving, spoiled_if}

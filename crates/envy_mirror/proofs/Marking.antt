@@ -1,7 +1,7 @@
 -- Marks, and whose answer is the pair's.
 use Rattle.std.proofs.Common.{◌≡◌, true, Option, None, Some, refl, ap}
 use Rattle.std.specs.Prelude.{IsTrue}
-use Rattle.envy_base.specs.Step.{Command}
+use Rattle.envy_array.specs.Step.{Command}
 use Rattle.envy_mirror.specs.Asking.{Asked, left_by, is_moving, has_said, has_failed, spoiled_if}
 use Rattle.envy_mirror.specs.Pair.{Side, is_good, is_good_by, IsSide}
 use Rattle.envy_mirror.specs.Replies.{Reply, Off, Bad, Said}

@@ -1,6 +1,6 @@
 -- What calls of one memory do to its counts.
 use Rattle.std.proofs.Common.{◌-◌, ◌∙◌, arith}
-use Rattle.envy_flush.proofs.CountLemmas.{Tallies-trans}
+use Rattle.envy_engine.proofs.CountLemmas.{Tallies-trans}
 use Rattle.envy_memory.specs.Picture.{Picture}
 use Rattle.envy_mirror.specs.Asking.{Reckons}
 

@@ -2,8 +2,8 @@
 use Rattle.std.proofs.Common.{◌≡◌, ◌≤◌, Bool, true, false, List, length, Result, Ok, Err, sym, ◌∙◌, ap, subst}
 use Rattle.std.proofs.lemmas.List.{length-replicate}
 use Rattle.envy_base.specs.declared.shape.Shape.{Shape}
-use Rattle.envy_layout.specs.Same.{Kept}
-use Rattle.envy_layout.specs.Stands.{Stands}
+use Rattle.envy_soundness.specs.Same.{Kept}
+use Rattle.envy_meaning.specs.Stands.{Stands}
 use Rattle.envy_memory.specs.declared.faults.ReviveFault.{ReviveFault}
 use Rattle.envy_memory.specs.declared.faults.ReviveFault.TheVariants.{Dead, Off}
 use Rattle.envy_mirror.specs.Catching.{Wakes}

@@ -2,10 +2,10 @@
 use Rattle.std.proofs.Common.{◌≡◌, ℕ, Bool, true, false, List, length, Option, None, Some, refl, sym, ◌∙◌, ap, subst}
 use Rattle.std.specs.Prelude.{IsTrue, ◌||◌, ◌&&◌, if◌then◌else◌}
 use Rattle.std.proofs.lemmas.List.{length-set}
-use Rattle.envy_base.specs.Array.{Array}
-use Rattle.envy_base.specs.Step.{Command, Answer, Step, Accepts, is_accepted}
+use Rattle.envy_array.specs.Array.{Array}
+use Rattle.envy_array.specs.Step.{Command, Answer, Step, Accepts, is_accepted}
 use Rattle.envy_map.specs.Fields.{Chart}
-use Rattle.envy_layout.specs.Stands.{Stands, IsLost}
+use Rattle.envy_meaning.specs.Stands.{Stands, IsLost}
 use Rattle.envy_mirror.specs.Asking.{Reaches, has_said, is_moving, cut_by_hand}
 use Rattle.envy_mirror.specs.Mirroring.{AgreesBy, Agrees, Mirrors, Gives, Trails}
 use Rattle.envy_mirror.specs.Pair.{Side, Pair, is_good, is_good_by, side_at, IsDark, IsPair, Leads, lasting}

@@ -2,11 +2,11 @@
 use Rattle.std.proofs.Common.{◌≡◌, ◌≢◌, ◌⊎◌, inl, inr, ℕ, ◌*◌, ◌/◌, ◌<◌, Bool, true, false, List, [], length, get_or, set, None, Some, sym, ◌∙◌, ap, subst, arith}
 use Rattle.std.proofs.lemmas.Bool.{cases_eq}
 use Rattle.std.proofs.lemmas.List.{get_or-set_same, get_or-set_other}
-use Rattle.envy_base.specs.Array.{Array, page_of, slot_of, with_slot, stored, put, aborted}
-use Rattle.envy_base.specs.Step.{Command, Answer, Load, Look, Store, Begin, Put, Commit, Abort, Tick, Word, Done, Started, Range, Held, Closed, Full, Busy, Step}
-use Rattle.envy_base.proofs.Keeping.{first-closed}
-use Rattle.envy_base.proofs.Owning.{owner-None, owner-begun, owner-alike, owner-put_there}
-use Rattle.envy_base.proofs.Undoing.{has, has-unowned, put_back-unsaved}
+use Rattle.envy_array.specs.Array.{Array, page_of, slot_of, with_slot, stored, put, aborted}
+use Rattle.envy_array.specs.Step.{Command, Answer, Load, Look, Store, Begin, Put, Commit, Abort, Tick, Word, Done, Started, Range, Held, Closed, Full, Busy, Step}
+use Rattle.envy_array.proofs.Keeping.{first-closed}
+use Rattle.envy_array.proofs.Owning.{owner-None, owner-begun, owner-alike, owner-put_there}
+use Rattle.envy_array.proofs.Undoing.{has, has-unowned, put_back-unsaved}
 use Rattle.envy_map.specs.Fields.{Chart}
 use Rattle.envy_mirror.specs.Mirroring.{IsFreshAt, Trails, is_stale}
 use Rattle.envy_mirror.specs.Replies.{Said, marked}

@@ -1,10 +1,10 @@
 -- A call that goes to each Good side.
 use Rattle.std.specs.Prelude.{◌≡◌, ◌↔◌, ◌≤◌, Bool, true, false, IsTrue, Option, None, Some, ◌&&◌, MatchOption}
-use Rattle.envy_base.specs.Array.{Array}
-use Rattle.envy_base.specs.Step.{Command, Tick}
+use Rattle.envy_array.specs.Array.{Array}
+use Rattle.envy_array.specs.Step.{Command, Tick}
 use Rattle.envy_map.specs.Fields.{Chart}
-use Rattle.envy_layout.specs.Stands.{Stands, Steps, IsLost, Fails}
-use Rattle.envy_flush.specs.Counts.{Tallies}
+use Rattle.envy_meaning.specs.Stands.{Stands, Steps, IsLost, Fails}
+use Rattle.envy_engine.specs.Counts.{Tallies}
 use Rattle.envy_memory.specs.Calls.{IsCut, HasFailed, pulled}
 use Rattle.envy_memory.specs.Picture.{Picture}
 use Rattle.envy_mirror.specs.Mirroring.{Mirrors, Gives}

@@ -2,17 +2,17 @@
 use Rattle.std.specs.Prelude.{◌≡◌, ◌≢◌, ℕ, ◌-◌, ◌/◌, ◌^◌, ◌<◌, Bool, true, false, List, length, replicate, slice_index, slice_set, Some, Result, Ok, Err}
 use Rattle.envy_base.specs.declared.fields.Slot.TheVariants.{Active}
 use Rattle.envy_map.specs.Fields.{Chart, slot}
-use Rattle.envy_layout.specs.Same.{Kept}
-use Rattle.envy_layout.specs.Words.{live, durable}
+use Rattle.envy_soundness.specs.Same.{Kept}
+use Rattle.envy_soundness.specs.Words.{live, durable}
 use Rattle.envy_memory.specs.Calls.{lit, HasFailed}
 use Rattle.envy_memory.specs.Picture.{Picture, counts_of}
 use Rattle.envy_mirror.specs.Asking.{Reckons}
 use Rattle.envy_mirror.specs.Mirroring.{is_stale}
 use Rattle.envy_mirror.specs.Pair.{Side, Pair, is_good}
-use Rattle.envy_mirror.specs.declared.catching.Caught.{Caught}
-use Rattle.envy_mirror.specs.declared.catching.Caught.TheVariants.{Whole, Waiting, Woken, Copied, Joined}
-use Rattle.envy_mirror.specs.declared.catching.CatchFault.{CatchFault}
-use Rattle.envy_mirror.specs.declared.catching.CatchFault.TheVariants.{Off, Dead, Slipped, Bad}
+use Rattle.envy_mirror.specs.declared.catch_up.Caught.{Caught}
+use Rattle.envy_mirror.specs.declared.catch_up.Caught.TheVariants.{Whole, Waiting, Woken, Copied, Joined}
+use Rattle.envy_mirror.specs.declared.catch_up.CatchFault.{CatchFault}
+use Rattle.envy_mirror.specs.declared.catch_up.CatchFault.TheVariants.{Off, Dead, Slipped, Bad}
 use Rattle.envy_mirror.specs.declared.standing.Standing.{Standing}
 use Rattle.envy_mirror.specs.declared.standing.Standing.TheVariants.{Good, Behind, Gone}
 use Rattle.envy_base.specs.declared.page.TheConstants.{PAGE_WORDS}

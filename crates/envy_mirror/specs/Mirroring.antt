@@ -1,10 +1,10 @@
 -- What a pair stands for.
 use Rattle.std.specs.Prelude.{◌≡◌, ℕ, ◌/◌, ◌<◌, Bool, false, IsTrue, List, length, slice_index, slice_index_or, None, ◌||◌}
-use Rattle.envy_base.specs.Array.{Array, owner}
-use Rattle.envy_base.specs.Step.{Command, Step, Accepts}
+use Rattle.envy_array.specs.Array.{Array, owner}
+use Rattle.envy_array.specs.Step.{Command, Step, Accepts}
 use Rattle.envy_map.specs.Fields.{Chart}
-use Rattle.envy_layout.specs.Stands.{Stands, IsLost}
-use Rattle.envy_layout.specs.Words.{live}
+use Rattle.envy_meaning.specs.Stands.{Stands, IsLost}
+use Rattle.envy_soundness.specs.Words.{live}
 use Rattle.envy_mirror.specs.Pair.{Side, Pair, is_good, side_at, IsClosed, IsDark}
 use Rattle.envy_mirror.specs.Replies.{Reply, Off, Bad, Said}
 use Rattle.envy_mirror.specs.declared.standing.Standing.{Standing}

@@ -1,8 +1,8 @@
 -- A call that asks the lowest Good side.
 use Rattle.std.specs.Prelude.{◌≡◌, ◌↔◌, ℕ, Bool, true, false, slice_index, Result, Ok, Err, OnOk}
-use Rattle.envy_base.specs.Array.{Array}
-use Rattle.envy_base.specs.Step.{Command}
-use Rattle.envy_layout.specs.Words.{durable}
+use Rattle.envy_array.specs.Array.{Array}
+use Rattle.envy_array.specs.Step.{Command}
+use Rattle.envy_soundness.specs.Words.{durable}
 use Rattle.envy_memory.specs.Effects.{LoadVisits}
 use Rattle.envy_memory.specs.Picture.{Picture}
 use Rattle.envy_memory.specs.declared.faults.LoadFault.{LoadFault}

@@ -1,9 +1,9 @@
 -- What a memory answers to a command, whatever the call.
 use Rattle.std.specs.Prelude.{ℕ, ◌/◌, Bool, true, false, List, slice_set, Option, None, Some, Result, Ok, Err}
-use Rattle.envy_base.specs.Step.{Command, Load, Look, Store, Begin, Put, Commit, Abort, Tick, Answer, Word, Done, Started, Range, Held, Closed, Full, Busy, is_accepted}
+use Rattle.envy_array.specs.Step.{Command, Load, Look, Store, Begin, Put, Commit, Abort, Tick, Answer, Word, Done, Started, Range, Held, Closed, Full, Busy, is_accepted}
 use Rattle.envy_base.specs.declared.board.Trouble.{Trouble}
 use Rattle.envy_base.specs.declared.board.Trouble.TheVariants.{Off as TroubleOff, Bad as TroubleBad}
-use Rattle.envy_flush.specs.declared.did.Did.{Did}
+use Rattle.envy_engine.specs.declared.did.Did.{Did}
 use Rattle.envy_memory.specs.declared.faults.LoadFault.{LoadFault}
 use Rattle.envy_memory.specs.declared.faults.LoadFault.TheVariants.{Off as LoadOff, Range as LoadRange}
 use Rattle.envy_memory.specs.declared.faults.StoreFault.{StoreFault}

@@ -1,10 +1,10 @@
 -- Power asked for where no side is Good, and given or not; and power cut by hand.
 use Rattle.std.specs.Prelude.{◌≡◌, ℕ, ◌-◌, ◌^◌, ◌<◌, Bool, true, false, List, length, replicate, Result, Ok, Err, IsTrue, ◌&&◌, ◌||◌, if◌then◌else◌, zero, suc}
-use Rattle.envy_base.specs.Array.{Array, undone}
+use Rattle.envy_array.specs.Array.{Array, undone}
 use Rattle.envy_base.specs.declared.faults.PlannedFault.{PlannedFault}
-use Rattle.envy_layout.specs.Sound.{IsSound}
-use Rattle.envy_layout.specs.Stands.{Stands}
-use Rattle.envy_layout.specs.Words.{durable}
+use Rattle.envy_soundness.specs.Sound.{IsSound}
+use Rattle.envy_meaning.specs.Stands.{Stands}
+use Rattle.envy_soundness.specs.Words.{durable}
 use Rattle.envy_memory.specs.Calls.{fresh, planned}
 use Rattle.envy_memory.specs.Restarts.{Restarts}
 use Rattle.envy_memory.specs.declared.faults.ReviveFault.{ReviveFault}

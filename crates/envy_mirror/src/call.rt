@@ -1,5 +1,5 @@
 ghost use Rattle.std.specs.Prelude.{◌≡◌};
-ghost use Rattle.envy_base.specs.Step.{Command};
+ghost use Rattle.envy_array.specs.Step.{Command};
 ghost use Rattle.envy_memory.specs.Picture.{Picture};
 ghost use Rattle.envy_mirror.specs.Asking.{Asks, is_moving};
 ghost use Rattle.envy_mirror.specs.Replies.{Reply, Off, kind_of, written_by};

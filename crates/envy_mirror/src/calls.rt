@@ -15,7 +15,7 @@ pub struct StoreCall {
 }
 
 impl Call for StoreCall {
-    ghost use Rattle.envy_base.specs.Step.{Store};
+    ghost use Rattle.envy_array.specs.Step.{Store};
     ghost use Rattle.envy_memory.specs.Below.{StoresBelow};
     ghost use Rattle.envy_mirror.specs.Replies.{store_reply};
 
@@ -58,7 +58,7 @@ impl Call for StoreCall {
 pub struct BeginCall;
 
 impl Call for BeginCall {
-    ghost use Rattle.envy_base.specs.Step.{Begin};
+    ghost use Rattle.envy_array.specs.Step.{Begin};
     ghost use Rattle.envy_mirror.specs.Replies.{begin_reply};
 
     type Told = Result<u8, BeginFault>;
@@ -103,7 +103,7 @@ pub struct PutCall {
 }
 
 impl Call for PutCall {
-    ghost use Rattle.envy_base.specs.Step.{Put};
+    ghost use Rattle.envy_array.specs.Step.{Put};
     ghost use Rattle.envy_memory.specs.Below.{PutsBelow};
     ghost use Rattle.envy_mirror.specs.Replies.{put_reply};
 
@@ -161,7 +161,7 @@ pub struct CommitCall {
 }
 
 impl Call for CommitCall {
-    ghost use Rattle.envy_base.specs.Step.{Commit};
+    ghost use Rattle.envy_array.specs.Step.{Commit};
     ghost use Rattle.envy_mirror.specs.Replies.{end_reply};
 
     type Told = Result<(), EndFault>;
@@ -200,7 +200,7 @@ pub struct AbortCall {
 }
 
 impl Call for AbortCall {
-    ghost use Rattle.envy_base.specs.Step.{Abort};
+    ghost use Rattle.envy_array.specs.Step.{Abort};
     ghost use Rattle.envy_mirror.specs.Replies.{end_reply};
 
     type Told = Result<(), EndFault>;
@@ -237,7 +237,7 @@ impl Call for AbortCall {
 pub struct TickCall;
 
 impl Call for TickCall {
-    ghost use Rattle.envy_base.specs.Step.{Tick};
+    ghost use Rattle.envy_array.specs.Step.{Tick};
     ghost use Rattle.envy_memory.specs.Below.{TicksBelow};
     ghost use Rattle.envy_mirror.specs.Replies.{tick_reply};
 

@@ -5,18 +5,18 @@
 //! takes memory.
 #![tactic(auto)]
 
-mod asking;
+mod both_sides;
 mod call;
 mod calls;
-mod catching;
-mod copying;
-mod cutting;
+mod catch_up;
+mod cuts;
 mod half;
+mod loads;
 mod mirror;
-mod reading;
-mod reviving;
+mod page_copy;
+mod revival;
 mod standing;
 
-pub use catching::{CatchFault, Caught};
+pub use catch_up::{CatchFault, Caught};
 pub use mirror::Mirror;
 pub use standing::{Standing, Which};

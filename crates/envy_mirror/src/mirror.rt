@@ -1,7 +1,7 @@
 ghost use Rattle.std.specs.Prelude.{◌≡◌, ◌<◌, MatchResult};
-ghost use Rattle.envy_base.specs.Array.{zeros};
+ghost use Rattle.envy_array.specs.Array.{zeros};
 ghost use Rattle.envy_map.specs.Fields.{chart};
-ghost use Rattle.envy_layout.specs.Stands.{Stands};
+ghost use Rattle.envy_meaning.specs.Stands.{Stands};
 ghost use Rattle.envy_memory.specs.Picture.{counts_of};
 ghost use Rattle.envy_mirror.specs.Mirroring.{Mirrors};
 ghost use Rattle.envy_mirror.specs.Pair.{IsPair, is_good, side_at, started};
@@ -9,7 +9,8 @@ ghost use Rattle.envy_mirror.specs.Reviving.{which};
 
 use crate::half::Half;
 use crate::standing::{Standing, Which};
-use envy_base::{Bench, Board, Counts, NoMemory};
+use envy_array::Counts;
+use envy_base::{Bench, Board, NoMemory};
 use envy_memory::Memory;
 use std::alloc::Global;
 use std::marker::Model;

@@ -9,7 +9,7 @@ use Rattle.envy_io.specs.Taking.{Taking}
 use Rattle.envy_image.specs.Image.{head_of, body_of, image_of}
 use Rattle.envy_image.specs.Installing.{Installs, Installed}
 use Rattle.envy_image.specs.Reading.{Consumes, Ends}
-use Rattle.envy_image.specs.declared.installing.InFault.TheVariants.{Short}
+use Rattle.envy_image.specs.declared.installation.InFault.TheVariants.{Short}
 use Rattle.envy_calls.specs.declared.code.Code.TheVariants.{ImageShort}
 use Rattle.envy_openings.specs.Image.{HoldsImage, NoBoard}
 use Rattle.envy_openings.specs.Reading.{feed_of, IsAt, IsOpened}

@@ -1,15 +1,15 @@
 -- What opening answers over a file that holds these bytes.
 use Rattle.std.specs.Prelude.{◌≡◌, ◌≢◌, ◌⊎◌, ℕ, false, List, Some, Ok}
 use Rattle.envy_args.specs.declared.keep.KeepOptions.{KeepOptions}
-use Rattle.envy_base.specs.Array.{Array}
+use Rattle.envy_array.specs.Array.{Array}
 use Rattle.envy_base.specs.declared.shape.ShapeFault.TheVariants.{Reserves}
 use Rattle.envy_begun.specs.Beginning.{HasBegun, HasOperationsOf}
 use Rattle.envy_begun.specs.Plans.{BeginsAs, BeginsOn, IsPlanned, Plans}
 use Rattle.envy_begun.specs.Unserved.{Refuses}
-use Rattle.envy_begun.specs.declared.planning.Holding.{Holding}
-use Rattle.envy_begun.specs.declared.planning.Holding.TheVariants.{Written}
-use Rattle.envy_begun.specs.declared.unbegun.Unbegun.{Unbegun}
-use Rattle.envy_begun.specs.declared.unbegun.Unbegun.TheVariants as unbegun
+use Rattle.envy_begun.specs.declared.file_contents.FileContents.{FileContents}
+use Rattle.envy_begun.specs.declared.file_contents.FileContents.TheVariants.{Written}
+use Rattle.envy_begun.specs.declared.open_fault.OpenFault.{OpenFault}
+use Rattle.envy_begun.specs.declared.open_fault.OpenFault.TheVariants as unbegun
 use Rattle.envy_calls.specs.Making.{ForSetup, IsNoSetup}
 use Rattle.envy_calls.specs.Setups.{setup_of}
 use Rattle.envy_calls.specs.declared.code.Code.{Code}
@@ -51,7 +51,7 @@ pub record Opened (given : EnvySetup) (file : List ℕ) (p : Picture) : Type 0 w
   pub setup : OfSetup
   pub is : setup_of given ≡ Some setup
   pub checks : checked setup ≡ Ok tt
-  pub holding : Holding
+  pub holding : FileContents
   pub plans : Plans holding (options_of setup) file setup
   pub array : Array
   pub begins : BeginsAs holding file setup array
@@ -61,14 +61,14 @@ pub record Opened (given : EnvySetup) (file : List ℕ) (p : Picture) : Type 0 w
 
 -- Why none began by a setup that breaks no rule: what the file holds; or, where that is no reason, memory ran out, or the
 -- file failed or is at the end of its range
-abbrev pub RefusesFile : KeepOptions → List ℕ → Unbegun → Type 0
+abbrev pub RefusesFile : KeepOptions → List ℕ → OpenFault → Type 0
 RefusesFile options file unbegun.Memory = IsPlanned options file
 RefusesFile options file unbegun.NotMade = IsPlanned options file
 RefusesFile options file (unbegun.Failed held) = IsPlanned options file
 RefusesFile options file why = Refuses options file why
 
 -- the answer where no memory began in a file
-abbrev pub code_of_unbegun : Unbegun → PlaceCode
+abbrev pub code_of_unbegun : OpenFault → PlaceCode
 code_of_unbegun (unbegun.Setup fault) = Of (Setup fault)
 code_of_unbegun unbegun.NoJournal = NoJournal
 code_of_unbegun unbegun.OtherVersion = OtherVersion
@@ -85,7 +85,7 @@ abbrev pub RefusesOpen : EnvySetup → List ℕ → PlaceCode → Type 0
 RefusesOpen given file code =
     ((why : Code) × (code ≡ Of why) × IsNoSetup given why)
     ⊎ (((code ≡ Of (Setup (OfShape Reserves))) × ForSetup given (λ setup. setup.shape.reserves ≢ 0))
-    ⊎ ((why : Unbegun) × (code ≡ code_of_unbegun why) × ForSetup given (λ setup. RefusesFile (options_of setup) file why)))
+    ⊎ ((why : OpenFault) × (code ≡ code_of_unbegun why) × ForSetup given (λ setup. RefusesFile (options_of setup) file why)))
 
 -- by the number of the answer
 abbrev pub DoesOpen : {R F S : Type 0} → EnvySetup → List ℕ → MemoryPlace R F S → MemoryPlace R F S → ℕ → Type 0

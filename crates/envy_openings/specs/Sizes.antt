@@ -18,9 +18,9 @@ SizesRegions given before after code =
     × (after ≡ record { rows = setup.shape.segments * setup.shape.rows; words = words_of setup.shape; erases = setup.shape.segments }))
     ⊎ (IsNoSetup given code × (after ≡ before))
 
--- how many bytes the rows, the SRAM and the counts of erases of a board take
+-- how many bytes the rows of a board take, each with its mark, and its SRAM and counts of erases
 abbrev pub board_bytes : Shape → ℕ
-board_bytes sh = 256 * (sh.segments * sh.rows) + 8 * words_of sh + 8 * sh.segments
+board_bytes sh = 257 * (sh.segments * sh.rows) + 8 * words_of sh + 8 * sh.segments
 
 -- what asking for them answers, or why there is no setup
 abbrev pub SizesBoard : EnvySetup → ℕ → ℕ → Code → Type 0

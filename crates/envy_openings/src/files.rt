@@ -1,9 +1,9 @@
 ghost use Rattle.std.specs.Prelude.{◌≡◌, Ok, IfOk, IfErr, MatchResult};
-ghost use Rattle.envy_base.specs.Array.{Array};
+ghost use Rattle.envy_array.specs.Array.{Array};
 ghost use Rattle.envy_begun.specs.Beginning.{HasBegun, HasOperationsOf};
 ghost use Rattle.envy_begun.specs.Plans.{BeginsAs, BeginsOn, Plans};
-ghost use Rattle.envy_begun.specs.declared.planning.Holding.{Holding as OfHolding};
-ghost use Rattle.envy_begun.specs.declared.planning.Holding.TheVariants.{Written};
+ghost use Rattle.envy_begun.specs.declared.file_contents.FileContents.{FileContents as OfHolding};
+ghost use Rattle.envy_begun.specs.declared.file_contents.FileContents.TheVariants.{Written};
 ghost use Rattle.envy_journal.specs.Head.{HasSixSizes};
 ghost use Rattle.envy_openings.specs.Files.{Opened, RefusesFile, RefusesOpen, code_of_unbegun, options_of};
 ghost use Rattle.envy_openings.specs.Opening.{Opens};
@@ -14,28 +14,28 @@ ghost use Rattle.envy_policy.specs.Setup.{checked};
 use crate::place::Place;
 use envy_args::{KeepOptions, Sizes};
 use envy_base::ShapeFault;
-use envy_begun::{Unbegun, begin, plan};
+use envy_begun::{OpenFault, begin, plan};
 use envy_calls::{Code, EnvySetup, checked_setup};
-use envy_cells::CellBoard;
 use envy_memory::Memory;
 use envy_places::{MemoryPlace, PlaceCode, is_open};
 use envy_policy::{Setup, SetupFault};
 use envy_portfile::{FilePort, PortFile};
+use envy_region::OwnedBoard;
 use envy_synced::Kept;
 use std::alloc::Global;
 
 // The answer where no memory began in a file.
-fn unbegun_code(unbegun: Unbegun) -> PlaceCode
+fn unbegun_code(unbegun: OpenFault) -> PlaceCode
     ensures { result ≡ code_of_unbegun unbegun }
 {
     match unbegun {
-        Unbegun::Setup(fault) | Unbegun::Options(fault) => PlaceCode::Of(Code::Setup(fault)),
-        Unbegun::NoJournal => PlaceCode::NoJournal,
-        Unbegun::OtherVersion => PlaceCode::OtherVersion,
-        Unbegun::Damaged(_) => PlaceCode::Damaged,
-        Unbegun::OtherSizes => PlaceCode::Of(Code::OtherShape),
-        Unbegun::Memory => PlaceCode::Of(Code::NoMemory),
-        Unbegun::NotMade | Unbegun::Failed(_) => PlaceCode::Of(Code::Off),
+        OpenFault::Setup(fault) | OpenFault::Options(fault) => PlaceCode::Of(Code::Setup(fault)),
+        OpenFault::NoJournal => PlaceCode::NoJournal,
+        OpenFault::OtherVersion => PlaceCode::OtherVersion,
+        OpenFault::Damaged(_) => PlaceCode::Damaged,
+        OpenFault::OtherSizes => PlaceCode::Of(Code::OtherShape),
+        OpenFault::Memory => PlaceCode::Of(Code::NoMemory),
+        OpenFault::NotMade | OpenFault::Failed(_) => PlaceCode::Of(Code::Off),
     }
 }
 
@@ -67,7 +67,7 @@ fn begun(
     file: &[u8],
     port: i32,
     bytewise: bool,
-) -> Result<Memory<Kept<CellBoard, PortFile>>, Unbegun>
+) -> Result<Memory<Kept<OwnedBoard, PortFile>>, OpenFault>
     requires checks { checked setup.now ≡ Ok tt }
     requires six { HasSixSizes setup.now.shape }
     ensures begun { IfOk result (λ memory. (holding : OfHolding) × (array : Array)
@@ -78,8 +78,8 @@ fn begun(
 {
     let options = options(setup);
     let (setup, holding) = plan(&options, file)?;
-    let Ok(board) = CellBoard::blank(alloc, &setup.shape) else {
-        return Err(Unbegun::Memory);
+    let Ok(board) = OwnedBoard::blank(alloc, &setup.shape) else {
+        return Err(OpenFault::Memory);
     };
     let device = FilePort::found(port, file, bytewise);
     match begin(alloc, board, device, &options, file, setup, holding) {
@@ -95,7 +95,7 @@ fn opened(
     file: &[u8],
     port: i32,
     bytewise: bool,
-) -> Result<Memory<Kept<CellBoard, PortFile>>, PlaceCode>
+) -> Result<Memory<Kept<OwnedBoard, PortFile>>, PlaceCode>
     ensures { MatchResult result (Opened given.now file.now) (RefusesOpen given.now file.now) }
 {
     let setup = match checked_setup(given) {

@@ -5,15 +5,14 @@ ghost use Rattle.envy_places.specs.Places.{AreAlike, held};
 
 use envy_base::Board;
 use envy_bench::CalmBoard;
-use envy_cells::CellBoard;
 use envy_memory::Memory;
 use envy_places::MemoryPlace;
 use envy_portfile::PortFile;
-use envy_region::RegionBoard;
+use envy_region::{BorrowedBoard, OwnedBoard};
 use envy_synced::Kept;
 
 /// A place for a memory over regions of a program's, in a file that it serves, or over a board that can be made to fail.
-pub type Place = MemoryPlace<RegionBoard<'static>, Kept<CellBoard, PortFile>, CalmBoard>;
+pub type Place = MemoryPlace<BorrowedBoard<'static>, Kept<OwnedBoard, PortFile>, CalmBoard>;
 
 /// A place that holds no memory.
 pub fn empty() -> Place
@@ -42,7 +41,7 @@ pub fn close<R: Board + Drop, F: Board + Drop, S: Board + Drop>(place: &mut Memo
 }
 
 // What the board of a memory over regions says.
-fn steady(slot: &Option<Memory<RegionBoard<'static>>>)
+fn steady(slot: &Option<Memory<BorrowedBoard<'static>>>)
     ensures { ForSome slot.now IsSteady }
 {
     if let Some(memory) = slot {
@@ -51,7 +50,7 @@ fn steady(slot: &Option<Memory<RegionBoard<'static>>>)
 }
 
 // What the board of a memory in a file says.
-fn flawless(slot: &Option<Memory<Kept<CellBoard, PortFile>>>)
+fn flawless(slot: &Option<Memory<Kept<OwnedBoard, PortFile>>>)
     ensures { ForSome slot.now IsFlawless }
 {
     if let Some(memory) = slot {
@@ -60,7 +59,7 @@ fn flawless(slot: &Option<Memory<Kept<CellBoard, PortFile>>>)
 }
 
 /// What regions and files promise of their boards. It changes nothing.
-pub fn faultless(place: &MemoryPlace<RegionBoard<'static>, Kept<CellBoard, PortFile>, CalmBoard>)
+pub fn faultless(place: &MemoryPlace<BorrowedBoard<'static>, Kept<OwnedBoard, PortFile>, CalmBoard>)
     ensures { IsFaultless place.now }
 {
     match place {

@@ -12,7 +12,7 @@ use envy_map::words;
 use envy_memory::Memory;
 use envy_places::{MemoryPlace, is_open};
 use envy_policy::Setup;
-use envy_region::RegionBoard;
+use envy_region::BorrowedBoard;
 use std::alloc::Global;
 
 // The setup, if the regions have the sizes of its shape.
@@ -42,7 +42,7 @@ fn formatted(
     flash: &'static mut [Page],
     sram: &'static mut [u64],
     erases: &'static mut [u64],
-) -> Result<Memory<RegionBoard<'static>>, Code>
+) -> Result<Memory<BorrowedBoard<'static>>, Code>
     requires { AreWhole flash.now sram.now }
     ensures { let all : Given = record {
       setup = given.now;
@@ -54,7 +54,7 @@ fn formatted(
         MatchResult result (Formatted all) (RefusesFormat all) }
 {
     let setup = setup_for(given, &*flash, &*sram, &*erases)?;
-    let board = RegionBoard::over(setup.shape, flash, sram, erases);
+    let board = BorrowedBoard::over(setup.shape, flash, sram, erases);
     match Memory::format(alloc, board, setup) {
         Ok(memory) => Ok(memory),
         Err(refused) => Err(format_answer(refused.1)),
@@ -68,7 +68,7 @@ fn attached(
     flash: &'static mut [Page],
     sram: &'static mut [u64],
     erases: &'static mut [u64],
-) -> Result<Memory<RegionBoard<'static>>, Code>
+) -> Result<Memory<BorrowedBoard<'static>>, Code>
     requires { AreWhole flash.now sram.now }
     ensures { let all : Given = record {
       setup = given.now;
@@ -80,7 +80,7 @@ fn attached(
         MatchResult result (Attached all) (RefusesAttach all) }
 {
     let setup = setup_for(given, &*flash, &*sram, &*erases)?;
-    let board = RegionBoard::over(setup.shape, flash, sram, erases);
+    let board = BorrowedBoard::over(setup.shape, flash, sram, erases);
     match attach(alloc, board, setup) {
         Ok(memory) => Ok(memory),
         Err(refused) => Err(refused.1),

@@ -4,8 +4,8 @@ ghost use Rattle.envy_openings.specs.Sizes.{SizesBoard, SizesRegions};
 use envy_calls::{Code, EnvySetup, checked_setup};
 use envy_map::words;
 
-// The bytes of a row of flash, and of a word.
-const ROW: u64 = 256;
+// The bytes of a row of flash with its mark, and of a word.
+const ROW: u64 = 257;
 
 const WORD: u64 = 8;
 
@@ -37,7 +37,7 @@ pub fn region_sizes(setup: &EnvySetup, sizes: &mut EnvySizes) -> Code
     Code::Done
 }
 
-/// How many bytes the board of a memory in a file takes from the heap, beside the tables of its parts.
+/// How many bytes the board of a memory in a file takes from the heap at most, beside the tables of its parts.
 pub fn board_size(setup: &EnvySetup, bytes: &mut u64) -> Code
     ensures { SizesBoard setup.now bytes.old bytes.new result }
 {

@@ -1,6 +1,6 @@
 -- A pair before the first line.
 use Rattle.std.proofs.Common.{[], refl, arith}
-use Rattle.envy_base.specs.Array.{Array}
+use Rattle.envy_array.specs.Array.{Array}
 use Rattle.envy_memory.specs.Picture.{Picture}
 use Rattle.envy_mirror.specs.Mirroring.{Mirrors}
 use Rattle.envy_mirror.specs.Pair.{Pair, started}

@@ -3,10 +3,10 @@ use Rattle.std.proofs.Common.{◌≡◌, ℕ, ◌+◌, ◌-◌, ◌^◌, ◌<◌
 use Rattle.envy_base.specs.declared.faults.PlannedFault.{PlannedFault}
 use Rattle.envy_base.specs.Counting.{up}
 use Rattle.envy_base.proofs.Counting.{up-least, up-below}
-use Rattle.envy_base.specs.declared.counts.Counts.{Counts}
-use Rattle.envy_flush.proofs.CountLemmas.{Tally3-trans}
-use Rattle.envy_flush.specs.Counts.{Tallies, Tally3}
-use Rattle.envy_layout.specs.Same.{Counted, Kept}
+use Rattle.envy_array.specs.declared.counts.Counts.{Counts}
+use Rattle.envy_engine.proofs.CountLemmas.{Tally3-trans}
+use Rattle.envy_engine.specs.Counts.{Tallies, Tally3}
+use Rattle.envy_soundness.specs.Same.{Counted, Kept}
 use Rattle.envy_map.specs.Fields.{Chart}
 use Rattle.envy_memory.proofs.Counted.{RoseBy-trans, RoseOver-trans, up-low}
 use Rattle.envy_memory.specs.Calls.{planned, HasFailed}

@@ -2,12 +2,12 @@
 use Rattle.std.proofs.Common.{◌≡◌, ◌⊎◌, inl, inr, ℕ, ◌+◌, Bool, true, false, List, [], ◌∷◌, Option, None, refl, sym, ◌∙◌, ap, subst, arith}
 use Rattle.std.specs.Prelude.{IsTrue, ◌||◌}
 use Rattle.std.proofs.lemmas.Bool.{or_cases}
-use Rattle.envy_base.specs.Array.{Array}
-use Rattle.envy_base.specs.Step.{Command}
+use Rattle.envy_array.specs.Array.{Array}
+use Rattle.envy_array.specs.Step.{Command}
 use Rattle.envy_base.specs.declared.shape.Shape.{Shape}
-use Rattle.envy_layout.specs.Sound.{IsSound}
-use Rattle.envy_layout.specs.Stands.{Stands, Holds, IsLost as LostIn}
-use Rattle.envy_layout.specs.Words.{durable}
+use Rattle.envy_soundness.specs.Sound.{IsSound}
+use Rattle.envy_meaning.specs.Stands.{Stands, Holds, IsLost as LostIn}
+use Rattle.envy_soundness.specs.Words.{durable}
 use Rattle.envy_memory.proofs.Stepped.{lost-fresh}
 use Rattle.envy_memory.specs.Calls.{fresh}
 use Rattle.envy_pair.proofs.Sides.{stands-good, neither, reach-none}

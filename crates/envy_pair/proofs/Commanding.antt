@@ -1,8 +1,8 @@
 -- A command that went to each Good side, seen without the boards.
 use Rattle.std.proofs.Common.{◌≡◌, inl, inr, ℕ, ◌+◌, ◌≤◌, Bool, true, false, [], ◌∷◌, Option, None, Some, refl, sym, ◌∙◌, ap, subst, arith}
 use Rattle.std.specs.Prelude.{IsTrue, ◌&&◌}
-use Rattle.envy_base.specs.Step.{Command, Answer}
-use Rattle.envy_base.specs.Step.{Word as IsWord, Done as IsDone, Started as IsStarted, Range as IsRange, Held as IsHeld, Closed as IsClosed, Full as IsFull, Busy as IsBusy}
+use Rattle.envy_array.specs.Step.{Command, Answer}
+use Rattle.envy_array.specs.Step.{Word as IsWord, Done as IsDone, Started as IsStarted, Range as IsRange, Held as IsHeld, Closed as IsClosed, Full as IsFull, Busy as IsBusy}
 use Rattle.envy_mirror.specs.Asking.{Reaches, heard, has_said, is_moving, spoiled_if, cut_by_hand}
 use Rattle.envy_mirror.specs.Pair.{Side, Pair, is_good, is_good_by}
 use Rattle.envy_mirror.specs.Replies.{Reply as PairReply, Off, Bad as WasBad, Said}

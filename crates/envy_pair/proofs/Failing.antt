@@ -1,12 +1,12 @@
 -- What a line in which power may fail does to a pair: a command, from what was heard of it; and power cut by hand.
 use Rattle.std.proofs.Common.{◌≡◌, ◌⊎◌, inl, inr, ℕ, ◌+◌, ◌<◌, false, List, [], ◌∷◌, ◌++◌, Option, None, refl, sym, ◌∙◌, ap, subst, arith}
 use Rattle.std.specs.Prelude.{IsTrue, IfSome, ◌||◌}
-use Rattle.envy_base.specs.Array.{Array, undone, restarted}
-use Rattle.envy_base.specs.Step.{Command}
-use Rattle.envy_base.specs.Step.{Store as DoStore, Begin as DoBegin, Put as DoPut, Commit as DoCommit, Abort as DoAbort, Tick as DoTick}
-use Rattle.envy_base.specs.declared.counts.Counts.{Counts}
-use Rattle.envy_layout.specs.Sound.{IsSound}
-use Rattle.envy_layout.specs.Words.{durable}
+use Rattle.envy_array.specs.Array.{Array, undone, restarted}
+use Rattle.envy_array.specs.Step.{Command}
+use Rattle.envy_array.specs.Step.{Store as DoStore, Begin as DoBegin, Put as DoPut, Commit as DoCommit, Abort as DoAbort, Tick as DoTick}
+use Rattle.envy_array.specs.declared.counts.Counts.{Counts}
+use Rattle.envy_soundness.specs.Sound.{IsSound}
+use Rattle.envy_soundness.specs.Words.{durable}
 use Rattle.envy_memory.specs.Calls.{fresh}
 use Rattle.envy_memory.specs.Picture.{counts_of}
 use Rattle.envy_mirror.specs.Mirroring.{Mirrors}

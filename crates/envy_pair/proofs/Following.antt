@@ -1,18 +1,18 @@
 -- A step by which one side follows the other, seen without the boards.
 use Rattle.std.proofs.Common.{◌≡◌, ◌≢◌, inl, inr, ℕ, ◌+◌, ◌-◌, ◌^◌, ◌<◌, ◌≤◌, Bool, true, false, List, [], ◌∷◌, Option, None, Some, refl, sym, ◌∙◌, ap, subst, arith}
 use Rattle.std.specs.Prelude.{Result, Ok, Err}
-use Rattle.envy_base.specs.Array.{Array, Saved, slot_of}
+use Rattle.envy_array.specs.Array.{Array, Saved, slot_of}
 use Rattle.envy_base.specs.declared.fields.Slot.TheVariants.{Vacant, Active}
-use Rattle.envy_layout.specs.Stands.{Stands, Holds, slot_word}
+use Rattle.envy_meaning.specs.Stands.{Stands, Holds, slot_word}
 use Rattle.envy_map.specs.Fields.{Chart, slot}
 use Rattle.envy_pair.proofs.Sides.{stands-good, neither}
 use Rattle.envy_mirror.specs.Catching.{Helps, Slips as SlipsBy, CatchesUp, CatchesBy as Catching, IsLowestOpen as LowestOpenSlot, NoneOpen as NoSlotOpen}
 use Rattle.envy_mirror.specs.Mirroring.{Mirrors, Agrees}
 use Rattle.envy_mirror.specs.Pair.{Side, Pair, is_good}
-use Rattle.envy_mirror.specs.declared.catching.Caught.{Caught}
-use Rattle.envy_mirror.specs.declared.catching.Caught.TheVariants.{Whole as CaughtWhole, Waiting as CaughtWaiting, Woken as CaughtWoken, Copied as CaughtCopied, Joined as CaughtJoined}
-use Rattle.envy_mirror.specs.declared.catching.CatchFault.{CatchFault}
-use Rattle.envy_mirror.specs.declared.catching.CatchFault.TheVariants.{Off as CatchOff, Dead as CatchDead, Slipped as CatchSlipped, Bad as CatchBad}
+use Rattle.envy_mirror.specs.declared.catch_up.Caught.{Caught}
+use Rattle.envy_mirror.specs.declared.catch_up.Caught.TheVariants.{Whole as CaughtWhole, Waiting as CaughtWaiting, Woken as CaughtWoken, Copied as CaughtCopied, Joined as CaughtJoined}
+use Rattle.envy_mirror.specs.declared.catch_up.CatchFault.{CatchFault}
+use Rattle.envy_mirror.specs.declared.catch_up.CatchFault.TheVariants.{Off as CatchOff, Dead as CatchDead, Slipped as CatchSlipped, Bad as CatchBad}
 use Rattle.envy_mirror.specs.declared.standing.Standing.{Standing}
 use Rattle.envy_mirror.specs.declared.standing.Standing.TheVariants.{Good, Behind, Gone}
 use Rattle.envy_mirror.specs.declared.standing.Which.{Which}

@@ -3,12 +3,12 @@ use Rattle.std.proofs.Common.{◌≡◌, inl, ℕ, ◌/◌, ◌<◌, Bool, true,
 use Rattle.std.specs.Prelude.{Result, Ok, Err}
 use Rattle.envy_base.specs.declared.faults.PlannedFault.{PlannedFault}
 use Rattle.envy_base.specs.declared.faults.PlannedFault.TheVariants.{Cut as PlanCut, Bad as PlanBad}
-use Rattle.envy_base.specs.Array.{Array}
-use Rattle.envy_base.specs.Step.{Command, Answer, Step}
-use Rattle.envy_base.specs.Step.{Load as DoLoad, Look as DoLook, Store as DoStore, Begin as DoBegin, Put as DoPut, Commit as DoCommit, Abort as DoAbort, Tick as DoTick}
-use Rattle.envy_base.specs.Step.{Word as IsWord, Range as IsRange}
-use Rattle.envy_layout.specs.Stands.{Stands}
-use Rattle.envy_layout.specs.Words.{live}
+use Rattle.envy_array.specs.Array.{Array}
+use Rattle.envy_array.specs.Step.{Command, Answer, Step}
+use Rattle.envy_array.specs.Step.{Load as DoLoad, Look as DoLook, Store as DoStore, Begin as DoBegin, Put as DoPut, Commit as DoCommit, Abort as DoAbort, Tick as DoTick}
+use Rattle.envy_array.specs.Step.{Word as IsWord, Range as IsRange}
+use Rattle.envy_meaning.specs.Stands.{Stands}
+use Rattle.envy_soundness.specs.Words.{live}
 use Rattle.envy_map.specs.Fields.{Chart}
 use Rattle.envy_memory.specs.Calls.{fresh, planned}
 use Rattle.envy_memory.specs.Picture.{counts_of}
@@ -21,8 +21,8 @@ use Rattle.envy_mirror.specs.Pair.{Pair, is_good, is_good_by, side_at, IsDark, I
 use Rattle.envy_mirror.specs.Reading.{Finds, AsksLowest, Reads}
 use Rattle.envy_mirror.specs.Replies.{load_reply}
 use Rattle.envy_mirror.specs.Reviving.{which, plan_side}
-use Rattle.envy_mirror.specs.declared.catching.Caught.{Caught}
-use Rattle.envy_mirror.specs.declared.catching.CatchFault.{CatchFault}
+use Rattle.envy_mirror.specs.declared.catch_up.Caught.{Caught}
+use Rattle.envy_mirror.specs.declared.catch_up.CatchFault.{CatchFault}
 use Rattle.envy_mirror.specs.declared.standing.Standing.{Standing}
 use Rattle.envy_mirror.specs.declared.standing.Standing.TheVariants.{Good, Behind, Gone as IsGone}
 use Rattle.envy_mirror.specs.declared.standing.Which.{Which}

@@ -1,9 +1,9 @@
 -- Facts of one side of a pair.
 use Rattle.std.proofs.Common.{◌≡◌, Bool, true, false, List, Option, None, sym, ◌∙◌}
 use Rattle.std.specs.Prelude.{IsTrue, ◌||◌}
-use Rattle.envy_base.specs.Array.{Array}
-use Rattle.envy_base.specs.Step.{Command}
-use Rattle.envy_layout.specs.Stands.{Stands}
+use Rattle.envy_array.specs.Array.{Array}
+use Rattle.envy_array.specs.Step.{Command}
+use Rattle.envy_meaning.specs.Stands.{Stands}
 use Rattle.envy_map.specs.Fields.{Chart}
 use Rattle.envy_mirror.specs.Asking.{Reaches}
 use Rattle.envy_mirror.specs.Mirroring.{AgreesBy}

@@ -2,8 +2,8 @@
 use Rattle.std.proofs.Common.{ℕ, List, ◌∷◌, refl, arith}
 use Rattle.envy_io.specs.Streams.{Drain}
 use Rattle.envy_mirror.specs.Pair.{Pair}
-use Rattle.envy_serve.specs.declared.service.Obeyed.{Obeyed}
-use Rattle.envy_serve.specs.declared.service.Obeyed.TheVariants.{Done, WriteFault, Dead}
+use Rattle.envy_serve.specs.declared.service.LineOutcome.{LineOutcome}
+use Rattle.envy_serve.specs.declared.service.LineOutcome.TheVariants.{Done, WriteFault, Dead}
 use Rattle.envy_serve.specs.Obeys.{Obeys}
 use Rattle.envy_trace.specs.declared.mirror_line.MirrorLine.{MirrorLine}
 use Rattle.envy_trace.specs.declared.mirror_reply.MirrorReply.{MirrorReply}
@@ -58,7 +58,7 @@ joins-dead start old new side turns t line d = record {
   bill = bill-joins turns (record { line = line; replies = before_restart line }) (MirroredSince.known t) d.mid.first.falls d.mid.second.falls start.pair old new (MirroredSince.bill t) d.costs;
 }
 
-pub obeys-since : (start : Start) (old new : Pair) (side new_side : ℕ) (turns : List MirrorTurn) (line : MirrorLine) (obeyed : Obeyed) (sink then_sink : Drain) (t : MirroredSince start old side turns) → ObeysMirror (MirroredSince.known t) line obeyed old side new new_side sink then_sink → Obeys obeyed mirror_grammar (MirroredSince start new new_side) (FellSince start new) turns line sink then_sink
+pub obeys-since : (start : Start) (old new : Pair) (side new_side : ℕ) (turns : List MirrorTurn) (line : MirrorLine) (obeyed : LineOutcome) (sink then_sink : Drain) (t : MirroredSince start old side turns) → ObeysMirror (MirroredSince.known t) line obeyed old side new new_side sink then_sink → Obeys obeyed mirror_grammar (MirroredSince start new new_side) (FellSince start new) turns line sink then_sink
 obeys-since start old new side new_side turns line Done sink then_sink t (replies, left, done, told) = (replies, joins-done start old new side new_side turns t line replies left done, told)
 obeys-since start old new side new_side turns line WriteFault sink then_sink t (replies, left, done, told) = (replies, joins-done start old new side new_side turns t line replies left done, told)
 obeys-since start old new side new_side turns line Dead sink then_sink t (dead, told) = (before_restart line, joins-dead start old new side turns t line dead, told)

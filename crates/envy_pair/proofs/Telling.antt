@@ -7,8 +7,8 @@ use Rattle.envy_io.specs.Streams.{Drain, WritesAll}
 use Rattle.envy_mirror.specs.Mirroring.{Mirrors}
 use Rattle.envy_mirror.specs.Pair.{Pair, is_good, IsDark, IsPair}
 use Rattle.envy_mirror.specs.Reviving.{which, cut_pair, LeavesCut}
-use Rattle.envy_serve.specs.declared.service.Obeyed.{Obeyed}
-use Rattle.envy_serve.specs.declared.service.Obeyed.TheVariants.{Done, WriteFault, Dead}
+use Rattle.envy_serve.specs.declared.service.LineOutcome.{LineOutcome}
+use Rattle.envy_serve.specs.declared.service.LineOutcome.TheVariants.{Done, WriteFault, Dead}
 use Rattle.envy_serve.specs.Streams.{Written, FrontWritten}
 use Rattle.envy_serve.specs.Turns.{texts}
 use Rattle.envy_trace.specs.Mirror.{IsMirrorLine, mirror_bytes}
@@ -66,7 +66,7 @@ before-told k line old mid side sink mid_sink then_sink (Ok done) before same wr
 before-told k line old mid side sink mid_sink then_sink (Err failed) before same writes =
     inr (subst (λ (rs : List MirrorReply). FrontWritten (texts mirror_grammar rs) sink then_sink) (sym before) (subst (λ (d : Drain). FrontWritten (texts mirror_grammar (Plain Lost ∷ [])) sink d) (sym same) (front-one (Plain Lost) sink mid_sink failed writes)))
 
-lost-so : (k : Known) (line : MirrorLine) (old mid new : Pair) (side : ℕ) (sink mid_sink then_sink : Drain) (wrote : Result Unit Failed) (obeyed : Obeyed) → side < 2 → DarkLine (Plain Lost ∷ []) k line old mid (which side) → WritesAll sink (mirror_bytes (Plain Lost) ++ newline ∷ []) wrote mid_sink → Recovers wrote obeyed mid new mid_sink then_sink → ObeysMirror k line obeyed old side new side sink then_sink
+lost-so : (k : Known) (line : MirrorLine) (old mid new : Pair) (side : ℕ) (sink mid_sink then_sink : Drain) (wrote : Result Unit Failed) (obeyed : LineOutcome) → side < 2 → DarkLine (Plain Lost ∷ []) k line old mid (which side) → WritesAll sink (mirror_bytes (Plain Lost) ++ newline ∷ []) wrote mid_sink → Recovers wrote obeyed mid new mid_sink then_sink → ObeysMirror k line obeyed old side new side sink then_sink
 lost-so k line old mid new side sink mid_sink then_sink (Ok done) Done within d writes (ok, back, told) =
     let (left, is) = dark-done (Plain Lost ∷ []) k line old mid new side within d back in
     (Plain Lost ∷ Plain Restarted ∷ [], left, is, told-both (Plain Lost) (Plain Restarted) sink mid_sink then_sink writes told)
@@ -82,7 +82,7 @@ lost-so k line old mid new side sink mid_sink then_sink (Err failed) WriteFault 
 lost-so k line old mid new side sink mid_sink then_sink wrote Dead within d writes (good, same) =
     (dark-dead (Plain Lost ∷ []) k line old mid new side d good, before-told k line old mid side sink mid_sink then_sink wrote d.before same writes)
 
-pub call-recovers : (k : Known) (line : MirrorLine) (reply : MirrorReply) (old mid new : Pair) (side new_side : ℕ) (sink mid_sink then_sink : Drain) (wrote : Result Unit Failed) (obeyed : Obeyed) → IsMirrorLine line → side < 2 → IsPair mid → IsDark mid → Serves k old → Hears line reply old side mid new_side → WritesAll sink (mirror_bytes reply ++ newline ∷ []) wrote mid_sink → Recovers wrote obeyed mid new mid_sink then_sink → ObeysMirror k line obeyed old side new new_side sink then_sink
+pub call-recovers : (k : Known) (line : MirrorLine) (reply : MirrorReply) (old mid new : Pair) (side new_side : ℕ) (sink mid_sink then_sink : Drain) (wrote : Result Unit Failed) (obeyed : LineOutcome) → IsMirrorLine line → side < 2 → IsPair mid → IsDark mid → Serves k old → Hears line reply old side mid new_side → WritesAll sink (mirror_bytes reply ++ newline ∷ []) wrote mid_sink → Recovers wrote obeyed mid new mid_sink then_sink → ObeysMirror k line obeyed old side new new_side sink then_sink
 call-recovers k line reply old mid new side new_side sink mid_sink then_sink wrote obeyed call within i dark s hears writes recovers =
     let (lost, d, stays) = dark-heard k line reply old mid side new_side dark (heard line reply k old mid side new_side call within i s hears) in
     subst (λ (n : ℕ). ObeysMirror k line obeyed old side new n sink then_sink) (sym stays)
@@ -100,13 +100,13 @@ power-failed k old new side sink then_sink failed within good s is leaves writes
     let (left, done) = power-lit k old new side within s is leaves good in
     (Gone ∷ [], left, done, front-one Gone sink then_sink failed writes)
 
-pub power-recovers : (k : Known) (old mid new : Pair) (side : ℕ) (sink then_sink : Drain) (obeyed : Obeyed) → side < 2 → IsPair mid → IsDark mid → Serves k old → mid ≡ cut_pair (which side) old → LeavesCut k.array mid → Recovers (Ok tt) obeyed mid new sink then_sink → ObeysMirror k (OfArray Power) obeyed old side new side sink then_sink
+pub power-recovers : (k : Known) (old mid new : Pair) (side : ℕ) (sink then_sink : Drain) (obeyed : LineOutcome) → side < 2 → IsPair mid → IsDark mid → Serves k old → mid ≡ cut_pair (which side) old → LeavesCut k.array mid → Recovers (Ok tt) obeyed mid new sink then_sink → ObeysMirror k (OfArray Power) obeyed old side new side sink then_sink
 power-recovers k old mid new side sink then_sink obeyed within i dark s is leaves recovers = at obeyed recovers
   where
     d : DarkLine [] k (OfArray Power) old mid (which side)
     d = power-dark k old mid side i s is leaves dark
 
-    at : (obeyed : Obeyed) → Recovers (Ok tt) obeyed mid new sink then_sink → ObeysMirror k (OfArray Power) obeyed old side new side sink then_sink
+    at : (obeyed : LineOutcome) → Recovers (Ok tt) obeyed mid new sink then_sink → ObeysMirror k (OfArray Power) obeyed old side new side sink then_sink
     at Done (ok, back, told) =
         let (left, done) = dark-done [] k (OfArray Power) old mid new side within d back in
         (Plain Restarted ∷ [], left, done, told)

@@ -1,6 +1,6 @@
 -- What the counts of both boards license: replies, cuts by hand, plans, and how often a side went Gone.
 use Rattle.std.specs.Prelude.{◌≡◌, ℕ, ◌+◌, ◌≤◌}
-use Rattle.envy_flush.specs.Counts.{Tally3}
+use Rattle.envy_engine.specs.Counts.{Tally3}
 use Rattle.envy_memory.specs.Picture.{Picture}
 use Rattle.envy_memory.specs.Rises.{RoseBy, RoseOver}
 use Rattle.envy_mirror.specs.Pair.{Pair}

@@ -1,8 +1,8 @@
 -- What the calls of a pair answer to the lines of a trace.
 use Rattle.std.specs.Prelude.{◌≡◌, ℕ, ◌/◌, IsTrue, Result, Ok, Err}
-use Rattle.envy_base.specs.Array.{Array}
-use Rattle.envy_base.specs.Step.{Command}
-use Rattle.envy_base.specs.Step.{Load as DoLoad, Look as DoLook, Store as DoStore, Begin as DoBegin, Put as DoPut, Commit as DoCommit, Abort as DoAbort, Tick as DoTick}
+use Rattle.envy_array.specs.Array.{Array}
+use Rattle.envy_array.specs.Step.{Command}
+use Rattle.envy_array.specs.Step.{Load as DoLoad, Look as DoLook, Store as DoStore, Begin as DoBegin, Put as DoPut, Commit as DoCommit, Abort as DoAbort, Tick as DoTick}
 use Rattle.envy_memory.specs.Picture.{counts_of}
 use Rattle.envy_memory.specs.declared.faults.LoadFault.{LoadFault}
 use Rattle.envy_mirror.specs.Asking.{Answers}
@@ -13,10 +13,10 @@ use Rattle.envy_mirror.specs.Pair.{Pair, is_good, side_at}
 use Rattle.envy_mirror.specs.Reading.{Finds, AsksLowest}
 use Rattle.envy_mirror.specs.Replies.{Reply as PairReply, Off, Bad as WasBad, Said, load_reply}
 use Rattle.envy_mirror.specs.Reviving.{which, plan_side}
-use Rattle.envy_mirror.specs.declared.catching.Caught.{Caught}
-use Rattle.envy_mirror.specs.declared.catching.Caught.TheVariants.{Whole as CaughtWhole, Waiting as CaughtWaiting, Woken as CaughtWoken, Copied as CaughtCopied, Joined as CaughtJoined}
-use Rattle.envy_mirror.specs.declared.catching.CatchFault.{CatchFault}
-use Rattle.envy_mirror.specs.declared.catching.CatchFault.TheVariants.{Off as CatchOff, Dead as CatchDead, Slipped as CatchSlipped, Bad as CatchBad}
+use Rattle.envy_mirror.specs.declared.catch_up.Caught.{Caught}
+use Rattle.envy_mirror.specs.declared.catch_up.Caught.TheVariants.{Whole as CaughtWhole, Waiting as CaughtWaiting, Woken as CaughtWoken, Copied as CaughtCopied, Joined as CaughtJoined}
+use Rattle.envy_mirror.specs.declared.catch_up.CatchFault.{CatchFault}
+use Rattle.envy_mirror.specs.declared.catch_up.CatchFault.TheVariants.{Off as CatchOff, Dead as CatchDead, Slipped as CatchSlipped, Bad as CatchBad}
 use Rattle.envy_trace.specs.declared.line.Line.{Line}
 use Rattle.envy_trace.specs.declared.line.Line.TheVariants.{Empty, Load, Look, Store, Begin, Put, Commit, Abort, Tick, Power, Cut, Bad, Stat}
 use Rattle.envy_trace.specs.declared.mirror_line.MirrorLine.{MirrorLine}
@@ -27,8 +27,8 @@ use Rattle.envy_trace.specs.declared.mirror_reply.MirrorReply.{MirrorReply}
 use Rattle.envy_trace.specs.declared.mirror_reply.MirrorReply.TheVariants.{Array as Plain, Whole, Waiting, Woken, Copied, Joined, Dead, Slipped}
 use Rattle.envy_serve.specs.Answering.{said}
 use Rattle.envy_pair.specs.MirrorRun.{may_fault}
-use Rattle.envy_pair.specs.declared.answering.Beside.{Beside}
-use Rattle.envy_pair.specs.declared.answering.Beside.TheVariants.{Nothing, Power as OfPower}
+use Rattle.envy_pair.specs.declared.answers.BoardRequest.{BoardRequest}
+use Rattle.envy_pair.specs.declared.answers.BoardRequest.TheVariants.{Nothing, Power as OfPower}
 use Rattle.envy_base.specs.declared.page.TheConstants.{PAGE_WORDS}
 
 -- the reply that shows what the pair answered
@@ -91,6 +91,6 @@ Hears (Side x) reply old side new new_side = (reply ≡ Plain Done) × (new ≡ 
 Hears Catch reply old side new new_side = (result : Result Caught CatchFault) × (reply ≡ caught result) × CatchesUp result old new × ((m : Array) → Mirrors old m → Mirrors new m) × (new_side ≡ side)
 
 -- the line that asks for this, which is no call of a pair
-abbrev pub line_beside : Beside → Line
+abbrev pub line_beside : BoardRequest → Line
 line_beside Nothing = Empty
 line_beside OfPower = Power

@@ -1,9 +1,9 @@
 -- What a mirrored pair answers to the lines of a trace: the answers of one array.
 use Rattle.std.specs.Prelude.{◌≡◌, ◌≢◌, ◌⊎◌, ℕ, ◌<◌, Bool, true, false, IsTrue, List, [], ◌∷◌, ◌++◌, length, replicate, slice_set, Option, None, Some}
-use Rattle.envy_base.specs.Array.{Array, slot_of, restarted}
-use Rattle.envy_base.specs.declared.counts.Counts.{Counts}
-use Rattle.envy_base.specs.Step.{Command, Answer, Step, Accepts, Lost}
-use Rattle.envy_base.specs.Step.{Load as DoLoad, Look as DoLook, Store as DoStore, Begin as DoBegin, Put as DoPut, Commit as DoCommit, Abort as DoAbort, Tick as DoTick}
+use Rattle.envy_array.specs.Array.{Array, slot_of, restarted}
+use Rattle.envy_array.specs.declared.counts.Counts.{Counts}
+use Rattle.envy_array.specs.Step.{Command, Answer, Step, Accepts, Lost}
+use Rattle.envy_array.specs.Step.{Load as DoLoad, Look as DoLook, Store as DoStore, Begin as DoBegin, Put as DoPut, Commit as DoCommit, Abort as DoAbort, Tick as DoTick}
 use Rattle.envy_io.specs.Lines.{newline}
 use Rattle.envy_mirror.specs.Catching.{IsLowestStale, NoneStale}
 use Rattle.envy_mirror.specs.Replies.{Said, marked}

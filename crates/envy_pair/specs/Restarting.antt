@@ -2,15 +2,15 @@
 use Rattle.std.specs.Prelude.{◌≡◌, ◌⊎◌, Bool, true, false, [], ◌∷◌, length, replicate, Result, IsOk, IsErr}
 use Rattle.envy_io.specs.declared.source.Failed.{Failed}
 use Rattle.envy_io.specs.Streams.{Drain}
-use Rattle.envy_layout.specs.Sound.{IsSound}
-use Rattle.envy_layout.specs.Words.{durable}
+use Rattle.envy_soundness.specs.Sound.{IsSound}
+use Rattle.envy_soundness.specs.Words.{durable}
 use Rattle.envy_memory.specs.Calls.{fresh}
 use Rattle.envy_mirror.specs.Mirroring.{Mirrors}
 use Rattle.envy_mirror.specs.Pair.{Side, Pair, side_at, IsDark}
 use Rattle.envy_mirror.specs.Reviving.{with_side}
 use Rattle.envy_mirror.specs.declared.standing.Standing.TheVariants.{Good, Gone}
-use Rattle.envy_serve.specs.declared.service.Obeyed.{Obeyed}
-use Rattle.envy_serve.specs.declared.service.Obeyed.TheVariants.{Done, WriteFault, Dead}
+use Rattle.envy_serve.specs.declared.service.LineOutcome.{LineOutcome}
+use Rattle.envy_serve.specs.declared.service.LineOutcome.TheVariants.{Done, WriteFault, Dead}
 use Rattle.envy_serve.specs.Streams.{Written, FrontWritten}
 use Rattle.envy_serve.specs.Turns.{texts}
 use Rattle.envy_trace.specs.declared.reply.Reply.TheVariants.{Restarted}
@@ -59,7 +59,7 @@ Restarts false old new = IsForGood old new
 
 -- After a failure of both sides, whose own reply was written or not: power is asked for, and its return is told.
 -- Nothing more is written after a write that failed.
-abbrev pub Recovers : Result Unit Failed → Obeyed → Pair → Pair → Drain → Drain → Type 0
+abbrev pub Recovers : Result Unit Failed → LineOutcome → Pair → Pair → Drain → Drain → Type 0
 Recovers wrote Done old new sink then_sink = IsOk wrote × IsBack old new × Written (texts mirror_grammar (Plain Restarted ∷ [])) sink then_sink
 Recovers wrote WriteFault old new sink then_sink = IsBack old new × ((IsErr wrote × (then_sink ≡ sink)) ⊎ (IsOk wrote × FrontWritten (texts mirror_grammar (Plain Restarted ∷ [])) sink then_sink))
 Recovers wrote Dead old new sink then_sink = IsForGood old new × (then_sink ≡ sink)

@@ -1,17 +1,17 @@
 -- What a pair of memories is between lines, and what one line does to it.
 use Rattle.std.specs.Prelude.{◌≡◌, ◌⊎◌, ℕ, ◌+◌, ◌<◌, Bool, true, false, IsTrue, IfSome, List, [], ◌∷◌, length, Err, refl, nat_lt}
 use Rattle.std.proofs.lemmas.Bool.{lt-ltb}
-use Rattle.envy_base.specs.Array.{Array}
+use Rattle.envy_array.specs.Array.{Array}
 use Rattle.envy_io.specs.Streams.{Drain}
-use Rattle.envy_layout.specs.Sound.{IsSound}
-use Rattle.envy_layout.specs.Words.{durable}
+use Rattle.envy_soundness.specs.Sound.{IsSound}
+use Rattle.envy_soundness.specs.Words.{durable}
 use Rattle.envy_memory.specs.Picture.{counts_of}
 use Rattle.envy_mirror.specs.Mirroring.{Mirrors}
 use Rattle.envy_mirror.specs.Pair.{Side as PairSide, Pair, side_at}
 use Rattle.envy_mirror.specs.Reviving.{which}
 use Rattle.envy_mirror.specs.declared.standing.Which.{Which}
-use Rattle.envy_serve.specs.declared.service.Obeyed.{Obeyed}
-use Rattle.envy_serve.specs.declared.service.Obeyed.TheVariants.{Done, WriteFault, Dead}
+use Rattle.envy_serve.specs.declared.service.LineOutcome.{LineOutcome}
+use Rattle.envy_serve.specs.declared.service.LineOutcome.TheVariants.{Done, WriteFault, Dead}
 use Rattle.envy_serve.specs.Streams.{Written, FrontWritten}
 use Rattle.envy_serve.specs.Turns.{count_lines, count_replies, count_of, one_if, texts}
 use Rattle.envy_trace.specs.Mirror.{mirror_line_of}
@@ -89,7 +89,7 @@ pub record LineDead (k : Known) (line : MirrorLine) (old : Pair) (side : ℕ) (n
   pub spent_second : IsTrue mid.second.dead → new.second.memory.chart.lives ≡ 0
   pub costs : Costs line (before_restart line) k old mid.first.falls mid.second.falls new
 
-abbrev pub ObeysMirror : Known → MirrorLine → Obeyed → Pair → ℕ → Pair → ℕ → Drain → Drain → Type 0
+abbrev pub ObeysMirror : Known → MirrorLine → LineOutcome → Pair → ℕ → Pair → ℕ → Drain → Drain → Type 0
 ObeysMirror k line Done old side new new_side sink then_sink = (replies : List MirrorReply) × (left : Known) × LineDone k line replies left old side new new_side × Written (texts mirror_grammar replies) sink then_sink
 ObeysMirror k line WriteFault old side new new_side sink then_sink = (replies : List MirrorReply) × (left : Known) × LineDone k line replies left old side new new_side × FrontWritten (texts mirror_grammar replies) sink then_sink
 ObeysMirror k line Dead old side new new_side sink then_sink = LineDead k line old side new × (Written (texts mirror_grammar (before_restart line)) sink then_sink ⊎ FrontWritten (texts mirror_grammar (before_restart line)) sink then_sink)

@@ -1,6 +1,6 @@
 -- A mirrored pair without boards: one array, what each side is good for, and which pages are stale.
 use Rattle.std.specs.Prelude.{◌≡◌, ◌⊎◌, ℕ, ◌+◌, Bool, true, false, IsTrue, List, length, replicate, if◌then◌else◌, ◌&&◌, ◌||◌}
-use Rattle.envy_base.specs.Array.{Array}
+use Rattle.envy_array.specs.Array.{Array}
 use Rattle.envy_mirror.specs.Pair.{is_good_by}
 use Rattle.envy_mirror.specs.Reviving.{other_than}
 use Rattle.envy_mirror.specs.declared.standing.Standing.{Standing}

@@ -5,9 +5,9 @@
 //! in `specs/Bills.antt`.
 #![tactic(auto)]
 
-mod answering;
-mod obeying;
-mod pairing;
-mod restarting;
+mod answers;
+mod mirror_service;
+mod power_line;
+mod recovery;
 
-pub use pairing::Pairing;
+pub use mirror_service::MirrorService;

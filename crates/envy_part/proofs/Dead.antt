@@ -10,10 +10,10 @@ use Rattle.envy_base.specs.State.{ones}
 use Rattle.envy_base.specs.declared.fields.Job.TheVariants.{Erase}
 use Rattle.envy_base.specs.declared.fields.Place.{Place}
 use Rattle.envy_base.specs.declared.fields.Place.TheVariants.{Absent, Row, Frame}
-use Rattle.envy_layout.specs.Sound.{Blanks, Jobs, IsSound, Names, IsSpare}
-use Rattle.envy_layout.specs.Words.{kept, word_at, durable}
-use Rattle.envy_layout.proofs.References.{copy-segment, row-of}
-use Rattle.envy_layout.proofs.WordLists.{words-same}
+use Rattle.envy_soundness.specs.Sound.{Blanks, Jobs, IsSound, Names, IsSpare}
+use Rattle.envy_soundness.specs.Words.{kept, word_at, durable}
+use Rattle.envy_soundness.proofs.References.{copy-segment, row-of}
+use Rattle.envy_soundness.proofs.WordLists.{words-same}
 use Rattle.envy_map.specs.Fields.{Chart}
 use Rattle.envy_part.specs.Dead.{IsDead, OnlyDeadDiffer, AreAlike, with_flash}
 

@@ -10,10 +10,9 @@ use Rattle.envy_base.specs.declared.shape.Shape.{Shape}
 use Rattle.envy_base.specs.Counting.{up}
 use Rattle.envy_base.specs.Map.{words_of}
 use Rattle.envy_base.specs.Shape.{IsShape}
-use Rattle.envy_base.specs.State.{ands, AreWords, Only, IsPage, IsBoard, with_row}
+use Rattle.envy_base.specs.State.{ands, AreWords, Only, IsPage, IsBoard, with_row, IsPage as WholePage}
 use Rattle.envy_part.specs.Part.{part_state, ArePages, HasZeros, MissesOnes, MissesPage}
 use Rattle.envy_bank.specs.Lanes.{lane_of, row_from}
-use Rattle.envy_bank.specs.Rows.{IsPage as WholePage}
 use Rattle.envy_bank.proofs.LaneLaws.{length-row_from, lanes_of, length-lanes_of, get_or-lanes_of, row_from-lanes_of}
 use Rattle.envy_base.proofs.Rows.{block_of, inside_of}
 

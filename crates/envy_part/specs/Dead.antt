@@ -3,8 +3,8 @@ use Rattle.std.specs.Prelude.{◌≡◌, ◌⊎◌, ◌↔◌, ℕ, ◌/◌, ◌
 use Rattle.envy_audit.specs.Judging.{Judges}
 use Rattle.envy_audit.specs.declared.verdict.Verdict.{Verdict}
 use Rattle.envy_base.specs.declared.fields.Job.TheVariants.{Switch, Erase}
-use Rattle.envy_layout.specs.Sound.{Names, IsPlaced, IsSpare}
-use Rattle.envy_layout.specs.Words.{durable}
+use Rattle.envy_soundness.specs.Sound.{Names, IsPlaced, IsSpare}
+use Rattle.envy_soundness.specs.Words.{durable}
 use Rattle.envy_map.specs.Fields.{Chart}
 
 -- Nothing names the row: it is used, since it is below its segment's fill, or lies in the spare while that is being

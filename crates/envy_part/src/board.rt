@@ -10,7 +10,7 @@ ghost use Rattle.envy_part.specs.Part.{ArePages, MissesOnes, MissesPage, part_st
 
 use crate::rows::{anded, word, words};
 use crate::{PartFault, Port, orders};
-use envy_base::{Board, Off, Page, Shape, Trouble};
+use envy_base::{Board, Off, Page, Shape, Trouble, more};
 use std::alloc::Global;
 
 /// A board whose flash is a part that is mapped into memory, and whose SRAM lies there too.
@@ -31,14 +31,6 @@ pub struct PartBoard<'a, P: Port> {
     /// How many orders weren't carried out since then.
     pub bads: u64,
     ghost sound: { IsBoard (part_state shape flash.now sram.now erases.items begun bads) } by { Prim.hlevel props },
-}
-
-// One more, but no more than a word counts to.
-#[tactic(auto, unfolding(envy_base::specs::Counting::up))]
-fn more(count: u64) -> u64
-    ensures { result ≡ up count }
-{
-    count.saturating_add(1)
 }
 
 // Counts the erase of a segment.

@@ -22,7 +22,7 @@ use Rattle.envy_calls.specs.declared.setup.EnvySetup.{EnvySetup}
 use Rattle.envy_parted.specs.Codes.{number_of_part, code_of_part, code_of_place}
 use Rattle.envy_parted.specs.declared.code.PartCode.{PartCode}
 use Rattle.envy_parted.specs.declared.code.PartCode.TheVariants.{Of}
-use Rattle.envy_parted.specs.declared.sizing.EnvyPartSizes.{EnvyPartSizes}
+use Rattle.envy_parted.specs.declared.part_sizes.EnvyPartSizes.{EnvyPartSizes}
 
 -- what a caller gives: numbers for a setup, where its regions lie, and what stands in them
 pub record Given : Type 0 where

@@ -5,17 +5,17 @@
 //! serves over callbacks; nothing is believed of them, since each order is looked at.
 #![tactic(auto)]
 
+mod attachment;
 mod calls;
 mod code;
 mod handle;
 mod laws;
-mod making;
-mod opening;
+mod openings;
+mod part_sizes;
 mod regions;
-mod sizing;
 
 pub use code::PartCode;
 pub use handle::EnvyParted;
 pub use laws::no_two_answers_share_a_number;
+pub use part_sizes::EnvyPartSizes;
 pub use regions::{EnvyMap, EnvyWords};
-pub use sizing::EnvyPartSizes;

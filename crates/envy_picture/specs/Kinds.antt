@@ -2,9 +2,9 @@
 use Rattle.std.specs.Prelude.{ℕ, Option, None, Some}
 use Rattle.envy_base.specs.declared.shape.Shape.{Shape}
 use Rattle.envy_map.specs.Fields.{Fields}
-use Rattle.envy_layout.specs.Naming.{IsNamed}
-use Rattle.envy_layout.specs.Sound.{IsKept, IsFree}
-use Rattle.envy_layout.specs.declared.rows.Kept.{Kept as OfKept}
+use Rattle.envy_soundness.specs.Naming.{IsNamed}
+use Rattle.envy_soundness.specs.Sound.{IsKept, IsFree}
+use Rattle.envy_soundness.specs.declared.rows.Kept.{Kept as OfKept}
 use Rattle.envy_picture.specs.declared.kinds.RowKind.{RowKind}
 use Rattle.envy_picture.specs.declared.kinds.RowKind.TheVariants.{Free, Kept, Shadow, Dead}
 

@@ -1,12 +1,12 @@
 ghost use Rattle.std.specs.Prelude.{◌≡◌, ◌*◌, ◌<◌, IfOk};
-ghost use Rattle.envy_layout.specs.Power.{power_of};
-ghost use Rattle.envy_layout.specs.Sound.{IsSound};
+ghost use Rattle.envy_soundness.specs.Power.{power_of};
+ghost use Rattle.envy_soundness.specs.Sound.{IsSound};
 ghost use Rattle.envy_map.specs.Fields.{chart};
 ghost use Rattle.envy_picture.specs.Kinds.{IsKind, kind_of};
 
 use envy_base::{Board, Off};
-use envy_layout::{Kept, keeper};
 use envy_map::fill;
+use envy_soundness::{Kept, row_owner};
 
 /// What a row of flash is.
 #[derive(Clone, Copy)]
@@ -39,7 +39,7 @@ pub fn row_kind<B: Board>(board: &B, row: u32) -> Result<RowKind, Off>
     ensures kind { IfOk result (IsKind (B.state board.now).shape (chart (B.state board.now)).fields row) }
     ensures power { (B.state board.now).on ≡ power_of result }
 {
-    if let Some(kept) = keeper(board, row)? {
+    if let Some(kept) = row_owner(board, row)? {
         return Ok(kind_of(kept));
     }
     let rows = board.shape().rows;

@@ -1,11 +1,11 @@
 -- What the calls that make power and flash fail answer, and what they leave of a memory over a board that can be made to fail.
 use Rattle.std.specs.Prelude.{◌≡◌, ◌⊎◌, ◌↔◌, ℕ, ◌-◌, ◌^◌, ◌<◌, ◌≤◌, false, IsTrue, OnOk, MatchResult, length, Option, None, Some, Result, Ok, Err}
-use Rattle.envy_base.specs.Array.{Array, undone}
+use Rattle.envy_array.specs.Array.{Array, undone}
 use Rattle.envy_base.specs.declared.faults.PlannedFault.{PlannedFault}
-use Rattle.envy_layout.specs.Same.{Kept}
-use Rattle.envy_layout.specs.Sound.{IsSound}
-use Rattle.envy_layout.specs.Stands.{Stands}
-use Rattle.envy_layout.specs.Words.{durable}
+use Rattle.envy_soundness.specs.Same.{Kept}
+use Rattle.envy_soundness.specs.Sound.{IsSound}
+use Rattle.envy_meaning.specs.Stands.{Stands}
+use Rattle.envy_soundness.specs.Words.{durable}
 use Rattle.envy_memory.specs.Calls.{fresh, lit, planned, pulled}
 use Rattle.envy_memory.specs.Picture.{Picture, counts_of}
 use Rattle.envy_memory.specs.Restarts.{Restarts}

@@ -5,8 +5,8 @@ use Rattle.envy_calls.specs.Codes.{number_of}
 use Rattle.envy_calls.specs.declared.code.Code.{Code}
 use Rattle.envy_calls.specs.declared.code.Code.TheVariants.{Done, Empty, Off}
 use Rattle.envy_disk.specs.Disk.{SyncsChart}
-use Rattle.envy_disk.specs.declared.on_disk.Compaction.{Compaction}
-use Rattle.envy_disk.specs.declared.on_disk.Compaction.TheVariants as compaction
+use Rattle.envy_disk.specs.declared.durable_board.Compaction.{Compaction}
+use Rattle.envy_disk.specs.declared.durable_board.Compaction.TheVariants as compaction
 use Rattle.envy_map.specs.Fields.{Chart}
 use Rattle.envy_memory.specs.Picture.{Picture}
 use Rattle.envy_places.specs.Codes.{number_of_place}
@@ -20,7 +20,7 @@ abbrev pub sync_code : Result Unit OffBoard → Code
 sync_code (Ok done) = Done
 sync_code (Err off) = Off
 
--- What the board's numbers tell is on the disk is what it holds; or the file failed, and power is off. No word changes.
+-- What the sync brought to the disk is what the board holds; or the file failed, and power is off. No word changes.
 pub record SyncsTo (Synced : Chart → Type 0) (p q : Picture) (code : ℕ) : Type 0 where
   pub answer : Result Unit OffBoard
   pub coded : code ≡ number_of (sync_code answer)
@@ -38,17 +38,17 @@ compaction_code (Ok compaction.Done) = Of Done
 compaction_code (Ok compaction.Appended) = Appended
 compaction_code (Err off) = Of Off
 
--- A sync that leaves no more in the file than a snapshot, or says that this was hindered.
-pub record CompactsTo (Synced Compact Hindered : Chart → Type 0) (p q : Picture) (code : ℕ) : Type 0 where
+-- A sync that leaves no more in the file than a snapshot, or says that this was hindered since the last one.
+pub record CompactsTo (Synced Compact : Chart → Type 0) (Hindered : Chart → Chart → Type 0) (p q : Picture) (code : ℕ) : Type 0 where
   pub answer : Result Compaction OffBoard
   pub coded : code ≡ number_of_place (compaction_code answer)
   pub syncs : SyncsChart p.chart answer q.chart
   pub synced : OnOk answer (Synced q.chart)
   pub compact : IfOk answer (λ made. made ≡ compaction.Done → Compact q.chart)
-  pub hindered : IfOk answer (λ made. made ≡ compaction.Appended → Hindered q.chart)
+  pub hindered : IfOk answer (λ made. made ≡ compaction.Appended → Hindered p.chart q.chart)
   pub kept : q ≡ record p { chart = q.chart }
 
-abbrev pub DoesCompact : (Chart → Type 0) → (Chart → Type 0) → (Chart → Type 0) → Option Picture → Option Picture → ℕ → Type 0
+abbrev pub DoesCompact : (Chart → Type 0) → (Chart → Type 0) → (Chart → Chart → Type 0) → Option Picture → Option Picture → ℕ → Type 0
 DoesCompact Synced Compact Hindered None new code = (new ≡ None) × (code ≡ number_of Empty)
 DoesCompact Synced Compact Hindered (Some p) new code = (q : Picture) × (new ≡ Some q) × CompactsTo Synced Compact Hindered p q code
 

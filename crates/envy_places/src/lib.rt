@@ -8,18 +8,19 @@
 mod bulk;
 mod calls;
 mod code;
+mod disk;
 mod each;
-mod failing;
+mod failures;
 mod index_calls;
 mod laws;
 mod map_calls;
 mod place;
-mod syncing;
 
 pub use bulk::{read, store_run, view, write};
 pub use calls::{abort, begin, commit, counts, load, look, put, store, tick, worn};
 pub use code::PlaceCode;
-pub use failing::{arm_bad, arm_cut, cut_now, lives, refusal, revive};
+pub use disk::{compact, powered, sync};
+pub use failures::{arm_bad, arm_cut, cut_now, lives, refusal, revive};
 pub use index_calls::{
     index_above, index_count, index_create, index_get, index_insert, index_last, index_next,
     index_remove, index_scan, index_scan_down,
@@ -30,4 +31,3 @@ pub use map_calls::{
     map_remove, map_scan, map_scan_down,
 };
 pub use place::{MemoryPlace, is_open};
-pub use syncing::{compact, powered, sync};

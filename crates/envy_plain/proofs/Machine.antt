@@ -6,11 +6,11 @@ use Rattle.std.proofs.lemmas.List.Elements.{All-push, All-filter, filter_passes}
 use Rattle.std.proofs.lemmas.List.Kept.{AllPairs-filter}
 use Rattle.std.proofs.lemmas.List.Quantifiers.{all_pairs_push}
 use Rattle.std.proofs.lemmas.Bool.{cases_eq, cases_lt, cases_Bool, eq-eqb}
-use Rattle.envy_base.specs.Array.{Array, Saved, page_of, pages, slot_of, saves_in, owns, owner, owned, saving, with_slot, put, IsArray}
-use Rattle.envy_base.specs.Step.{MayOwn}
-use Rattle.envy_base.proofs.Owning.{owners, length-owners, owners-at, owned-counts, owners-same, owner-begun, owner-closed, owners-put, owned-put}
-use Rattle.envy_base.proofs.Undoing.{saves}
-use Rattle.envy_base.proofs.Keeping.{IsArray-begun, IsArray-closed, IsArray-put}
+use Rattle.envy_array.specs.Array.{Array, Saved, page_of, pages, slot_of, saves_in, owns, owner, owned, saving, with_slot, put, IsArray}
+use Rattle.envy_array.specs.Step.{MayOwn}
+use Rattle.envy_array.proofs.Owning.{owners, length-owners, owners-at, owned-counts, owners-same, owner-begun, owner-closed, owners-put, owned-put}
+use Rattle.envy_array.proofs.Undoing.{saves}
+use Rattle.envy_array.proofs.Keeping.{IsArray-begun, IsArray-closed, IsArray-put}
 use Rattle.envy_plain.specs.declared.saved_word.SavedWord.{SavedWord}
 use Rattle.envy_plain.specs.Fields.{saved_by, slots_in, array_in, IsPlain}
 use Rattle.envy_plain.proofs.Parts.{array-of, is_other, saved_by-none, length-slots_in, slots_in-at, slot_in-open, slot_in-closed, slots_in-begun, slots_in-push, slots_in-closed}

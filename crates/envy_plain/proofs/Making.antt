@@ -2,9 +2,9 @@
 use Rattle.std.proofs.Common.{◌≡◌, ◌⊎◌, inl, inr, ℕ, ◌*◌, ◌<◌, ◌≤◌, Bool, false, List, [], length, get_or, replicate, Option, None, refl, sym, ◌∙◌, ap, subst, arith}
 use Rattle.std.proofs.lemmas.List.{length-replicate, get_or-replicate, get_or_past, ext_get_or}
 use Rattle.std.proofs.lemmas.Bool.{cases_lt}
-use Rattle.envy_base.specs.Array.{Saved, pages, owner, owned, owns, zeros, IsArray}
-use Rattle.envy_base.proofs.Owning.{owners, length-owners, owners-at, owned-none, owner-nobody}
-use Rattle.envy_base.proofs.Keeping.{IsArray-zeros}
+use Rattle.envy_array.specs.Array.{Saved, pages, owner, owned, owns, zeros, IsArray}
+use Rattle.envy_array.proofs.Owning.{owners, length-owners, owners-at, owned-none, owner-nobody}
+use Rattle.envy_array.proofs.Keeping.{IsArray-zeros}
 use Rattle.envy_plain.specs.declared.saved_word.SavedWord.{SavedWord}
 use Rattle.envy_plain.specs.Fields.{slots_in, array_in, IsPlain}
 use Rattle.envy_plain.proofs.Parts.{array-of, slots_in-is, slot_in-closed}

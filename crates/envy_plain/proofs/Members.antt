@@ -3,8 +3,8 @@ use Rattle.std.proofs.Common.{◌≡◌, ◌⊎◌, inl, inr, ℕ, zero, suc, �
 use Rattle.std.specs.Prelude.{◌==◌}
 use Rattle.std.proofs.lemmas.List.Elements.{Contains-append_left, Contains-append_right}
 use Rattle.std.proofs.lemmas.Bool.{cases_Bool, or_left, or_right, eq-eqb}
-use Rattle.envy_base.specs.Array.{Saved, page_of, slot_of, saves_in}
-use Rattle.envy_base.proofs.Undoing.{saves, saves-owns, has}
+use Rattle.envy_array.specs.Array.{Saved, page_of, slot_of, saves_in}
+use Rattle.envy_array.proofs.Undoing.{saves, saves-owns, has}
 use Rattle.envy_plain.specs.declared.saved_word.SavedWord.{SavedWord}
 use Rattle.envy_plain.specs.Fields.{saved_by, slot_in, array_in}
 use Rattle.envy_plain.proofs.Parts.{part, part-own, slots_in-at, slot_in-open, slot_in-closed}

@@ -2,11 +2,11 @@
 use Rattle.std.proofs.Common.{◌≡◌, inl, inr, ℕ, ◌+◌, ◌-◌, ◌/◌, ◌<◌, Bool, true, false, cond, not, List, length, get_or, set, filter, count_by, Option, None, Some, is_some, MatchOption, IsTrue, All, Any, Contains, refl, sym, ◌∙◌, ap, subst, subst₂}
 use Rattle.std.specs.Prelude.{slice_index, position, unwrap_or}
 use Rattle.std.proofs.lemmas.List.{set-get_or}
-use Rattle.envy_base.specs.Array.{Array, Saved, page_of, pages, slot_of, saves_in, owns, owner, owned, is_closed, put_back, undone, saving, with_slot, stored, put, aborted}
-use Rattle.envy_base.specs.Step.{MayOwn}
+use Rattle.envy_array.specs.Array.{Array, Saved, page_of, pages, slot_of, saves_in, owns, owner, owned, is_closed, put_back, undone, saving, with_slot, stored, put, aborted}
+use Rattle.envy_array.specs.Step.{MayOwn}
 use Rattle.std.proofs.lemmas.List.Quantifiers.{position-Some}
-use Rattle.envy_base.proofs.Owning.{length-owners, page-within, position-None, position-first, position-nowhere, may_own-only}
-use Rattle.envy_base.proofs.Undoing.{saves, saves-owns, has, undone-unsaved, undone-saved}
+use Rattle.envy_array.proofs.Owning.{length-owners, page-within, position-None, position-first, position-nowhere, may_own-only}
+use Rattle.envy_array.proofs.Undoing.{saves, saves-owns, has, undone-unsaved, undone-saved}
 use Rattle.envy_plain.specs.declared.saved_word.SavedWord.{SavedWord}
 use Rattle.envy_plain.specs.Fields.{saved_by, slot_in, slots_in, array_in, IsPlain}
 use Rattle.envy_plain.proofs.Machine.{slot-open, slot-is, marked-within, array-closed, IsPlain-closed}

@@ -5,7 +5,7 @@ use Rattle.std.specs.List.{range_with_len}
 use Rattle.std.proofs.lemmas.List.{get_or-set_same, get_or-set_other, length-set, get_or_past, ext_get_or}
 use Rattle.std.proofs.lemmas.List.FromFn.{get_or-map-range_with_len, length-map-range_with_len}
 use Rattle.std.proofs.lemmas.Bool.{cases_eq, cases_lt, eq-eqb, ne_eqb}
-use Rattle.envy_base.specs.Array.{Array, Saved}
+use Rattle.envy_array.specs.Array.{Array, Saved}
 use Rattle.envy_plain.specs.declared.saved_word.SavedWord.{SavedWord}
 use Rattle.envy_plain.specs.Fields.{saved_by, slot_in, slots_in}
 

@@ -2,11 +2,11 @@
 use Rattle.std.proofs.Common.{◌≡◌, ◌≢◌, ◌⊎◌, inl, inr, ℕ, ◌+◌, ◌<◌, ◌≤◌, List, length, replicate, Option, None, Some, Result, Ok, Err, MatchResult, refl, sym, ◌∙◌, ap, subst, arith}
 use Rattle.std.proofs.lemmas.List.{length-replicate, ext_get_or, get_or-replicate}
 use Rattle.std.proofs.lemmas.Bool.{cases_eq}
-use Rattle.envy_base.specs.Array.{Array, Saved, slot_of, undone, undo_all, aborted, restarted, IsArray}
-use Rattle.envy_base.specs.Step.{Step, Abort, Done}
-use Rattle.envy_base.proofs.Keeping.{step-keeps}
-use Rattle.envy_base.proofs.Owning.{slot_cases, slot-within}
-use Rattle.envy_base.proofs.Undoing.{undone-aborted, undo_all-closed}
+use Rattle.envy_array.specs.Array.{Array, Saved, slot_of, undone, undo_all, aborted, restarted, IsArray}
+use Rattle.envy_array.specs.Step.{Step, Abort, Done}
+use Rattle.envy_array.proofs.Keeping.{step-keeps}
+use Rattle.envy_array.proofs.Owning.{slot_cases, slot-within}
+use Rattle.envy_array.proofs.Undoing.{undone-aborted, undo_all-closed}
 use Rattle.envy_plain.specs.declared.refusal.Refusal.{Refusal}
 use Rattle.envy_plain.specs.declared.refusal.Refusal.TheVariants.{Range, Closed, Held, Full, Busy}
 use Rattle.envy_plain.specs.Refusals.{answer_of}

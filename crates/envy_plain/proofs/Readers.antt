@@ -4,8 +4,8 @@ use Rattle.std.specs.Option.{option_copied, ok_or, unwrap_or}
 use Rattle.std.specs.Slice.{IsGetResult}
 use Rattle.std.proofs.lemmas.List.{get_or_past}
 use Rattle.std.proofs.lemmas.Bool.{ltb-true, ltb-false}
-use Rattle.envy_base.specs.Array.{Array, Saved, page_of, pages, slot_of, owner}
-use Rattle.envy_base.proofs.Owning.{owners, length-owners, owners-at}
+use Rattle.envy_array.specs.Array.{Array, Saved, page_of, pages, slot_of, owner}
+use Rattle.envy_array.proofs.Owning.{owners, length-owners, owners-at}
 use Rattle.envy_plain.specs.declared.saved_word.SavedWord.{SavedWord}
 use Rattle.envy_plain.specs.declared.refusal.Refusal.TheVariants.{Range}
 use Rattle.envy_plain.specs.Fields.{saved_by, array_in}

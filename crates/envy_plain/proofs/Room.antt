@@ -8,8 +8,8 @@ use Rattle.std.proofs.lemmas.List.Folds.{Any-from_list_any}
 use Rattle.std.proofs.lemmas.Map.Keys.{IsDistinct-from_apart}
 use Rattle.std.proofs.lemmas.Map.Steps.{length-le_from_distinct_below}
 use Rattle.std.proofs.lemmas.Bool.{cases_eq, cases_order, eqb-true, ne_eqb}
-use Rattle.envy_base.specs.Array.{Array, Saved, page_of, pages, slot_of, saves_in, owns, owned}
-use Rattle.envy_base.proofs.Owning.{length-owners, owners-at, owned-counts, owner-is, page-within}
+use Rattle.envy_array.specs.Array.{Array, Saved, page_of, pages, slot_of, saves_in, owns, owned}
+use Rattle.envy_array.proofs.Owning.{length-owners, owners-at, owned-counts, owner-is, page-within}
 use Rattle.envy_plain.specs.declared.saved_word.SavedWord.{SavedWord}
 use Rattle.envy_plain.specs.Fields.{saved_by, slot_in, slots_in, array_in, IsPlain}
 use Rattle.envy_plain.proofs.Parts.{part, part-own, part-other, length-slots_in, slots_in-at, slots_in-is, slot_in-open}

@@ -2,10 +2,10 @@
 use Rattle.std.proofs.Common.{◌≡◌, ◌⊎◌, inl, inr, ℕ, zero, suc, ◌+◌, ◌*◌, ◌/◌, ◌<◌, ◌≤◌, Bool, true, false, List, [], ◌∷◌, ◌++◌, length, get_or, set, Option, None, Some, is_some, MatchOption, Any, refl, sym, ◌∙◌, ap, subst, arith}
 use Rattle.std.specs.Prelude.{slice_index}
 use Rattle.std.proofs.lemmas.List.{get_or_read, set-get_or, length_push}
-use Rattle.envy_base.specs.Array.{Array, Saved, page_of, pages, slot_of, owner, owned, saving, with_slot, put}
-use Rattle.envy_base.specs.Step.{MayOwn}
-use Rattle.envy_base.proofs.Owning.{length-owners, owners-at, page-within}
-use Rattle.envy_base.proofs.Total.{option_cases}
+use Rattle.envy_array.specs.Array.{Array, Saved, page_of, pages, slot_of, owner, owned, saving, with_slot, put}
+use Rattle.envy_array.specs.Step.{MayOwn}
+use Rattle.envy_array.proofs.Owning.{length-owners, owners-at, page-within}
+use Rattle.envy_array.proofs.Total.{option_cases}
 use Rattle.envy_plain.specs.declared.saved_word.SavedWord.{SavedWord}
 use Rattle.envy_plain.specs.Fields.{saved_by, array_in, IsPlain}
 use Rattle.envy_plain.proofs.Machine.{slot-is, array-pushed, Takes, IsPlain-pushed}

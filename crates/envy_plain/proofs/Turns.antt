@@ -5,8 +5,8 @@ use Rattle.std.proofs.lemmas.List.{get_or-set_same, get_or-set_other, get_or-tak
 use Rattle.std.proofs.lemmas.List.Folds.{list_any-append}
 use Rattle.std.proofs.lemmas.List.Sums.{sum_by-set}
 use Rattle.std.proofs.lemmas.Bool.{cases_eq, or_from, or_left, eq-eqb, ne_eqb}
-use Rattle.envy_base.specs.Array.{Saved, page_of, saves_in, put_back}
-use Rattle.envy_base.proofs.Undoing.{saves, put_back-set}
+use Rattle.envy_array.specs.Array.{Saved, page_of, saves_in, put_back}
+use Rattle.envy_array.proofs.Undoing.{saves, put_back-set}
 use Rattle.envy_plain.specs.declared.saved_word.SavedWord.{SavedWord}
 use Rattle.envy_plain.specs.Fields.{saved_by}
 use Rattle.envy_plain.proofs.Parts.{part, part-other, saved_by-push}

@@ -1,7 +1,7 @@
 -- The array that the fields of a plain machine stand for.
 use Rattle.std.specs.Prelude.{◌≡◌, ◌≢◌, ℕ, ◌*◌, ◌<◌, ◌≤◌, ◌==◌, Bool, false, IsTrue, List, [], ◌∷◌, ◌++◌, length, map, Option, None, Some, All, AllPairs, slice_index_or, sum_by, unwrap_or, if◌then◌else◌}
 use Rattle.std.specs.List.{range_with_len}
-use Rattle.envy_base.specs.Array.{Array, Saved, pages, owner, owned, IsArray}
+use Rattle.envy_array.specs.Array.{Array, Saved, pages, owner, owned, IsArray}
 use Rattle.envy_plain.specs.declared.saved_word.SavedWord.{SavedWord}
 use Rattle.envy_base.specs.declared.page.TheConstants.{PAGE_WORDS}
 

@@ -1,5 +1,5 @@
 -- The answer of a refused call.
-use Rattle.envy_base.specs.Step.{Answer, Range as RangeAnswer, Closed as ClosedAnswer, Held as HeldAnswer, Full as FullAnswer, Busy as BusyAnswer}
+use Rattle.envy_array.specs.Step.{Answer, Range as RangeAnswer, Closed as ClosedAnswer, Held as HeldAnswer, Full as FullAnswer, Busy as BusyAnswer}
 use Rattle.envy_plain.specs.declared.refusal.Refusal.{Refusal}
 use Rattle.envy_plain.specs.declared.refusal.Refusal.TheVariants.{Range, Closed, Held, Full, Busy}
 

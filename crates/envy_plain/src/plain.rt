@@ -1,7 +1,7 @@
 ghost use Rattle.std.specs.Prelude.{◌≡◌, ◌≢◌, ◌*◌, ◌<◌, ◌≤◌, length, slice_index, MatchResult, MatchBool, IfOk, Some, None, not, position, replicate};
-ghost use Rattle.envy_base.specs.Array.{Saved, page_of, slot_of, owner, saving, with_slot, stored, restarted, zeros};
+ghost use Rattle.envy_array.specs.Array.{Saved, page_of, slot_of, owner, saving, with_slot, stored, restarted, zeros};
 ghost use Rattle.envy_base.specs.Shape.{IsShape};
-ghost use Rattle.envy_base.specs.Step.{Step, MayOwn, Load, Look, Store, Begin, Put, Commit, Abort, Word, Started, Done};
+ghost use Rattle.envy_array.specs.Step.{Step, MayOwn, Load, Look, Store, Begin, Put, Commit, Abort, Word, Started, Done};
 ghost use Rattle.envy_plain.specs.Refusals.{answer_of};
 
 use crate::refusal::Refusal;
@@ -32,7 +32,7 @@ pub struct Plain {
 
 impl Model for Plain {
     ghost use Rattle.std.specs.Prelude.{vec_capacity};
-    ghost use Rattle.envy_base.specs.Array.{Array};
+    ghost use Rattle.envy_array.specs.Array.{Array};
     ghost use Rattle.envy_plain.specs.Fields.{array_in, IsPlain};
 
     ghost Value = { Array };

@@ -1,5 +1,5 @@
 ghost use Rattle.std.specs.Prelude.{◌≡◌, ◌≢◌, ◌+◌, ◌*◌, ◌/◌, ◌^◌, ◌<◌, ◌≤◌, ℕ, length, All, Any, AllPairs, MatchOption, None, is_some, count_by, slice_index_or, filter, not, vec_capacity, ◌==◌, if◌then◌else◌};
-ghost use Rattle.envy_base.specs.Array.{saves_in, put_back};
+ghost use Rattle.envy_array.specs.Array.{saves_in, put_back};
 ghost use Rattle.envy_plain.specs.Fields.{saved_by};
 
 use envy_base::PAGE_WORDS;

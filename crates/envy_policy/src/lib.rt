@@ -3,9 +3,9 @@
 
 mod choice;
 mod chooser;
+mod chooser_parts;
 mod class;
 mod counted;
-mod deciding;
 mod fraction;
 mod heats;
 mod laws;
@@ -17,9 +17,9 @@ mod setup;
 
 pub use choice::Choice;
 pub use chooser::Chooser;
+pub use chooser_parts::nearer;
 pub use class::Class;
 pub use counted::Rows;
-pub use deciding::nearer;
 pub use laws::{
     a_choice_has_rows, greedy_looks_at_all_positions, heats_count_flushes, notes_keep_the_sizes,
     rows_leave_one_choice,

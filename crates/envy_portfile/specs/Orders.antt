@@ -1,7 +1,7 @@
 -- What an order says to whoever serves the file, and the call that it is.
 use Rattle.std.specs.Prelude.{ℕ, List, [], ◌++◌, length}
 use Rattle.std.specs.Int.{w64, to_le_bytes}
-use Rattle.envy_record.specs.Calls.{Call, Wrote, WriteFailed, CutTo, CutFailed, Synced, SyncFailed, Began, BeginFailed, Appended, AppendFailed, Replaced, ReplaceFailed}
+use Rattle.envy_device.specs.Calls.{Call, Wrote, WriteFailed, CutTo, CutFailed, Synced, SyncFailed, Began, BeginFailed, Appended, AppendFailed, Replaced, ReplaceFailed}
 use Rattle.envy_portfile.specs.declared.order.Order.{Order}
 use Rattle.envy_portfile.specs.declared.order.Order.TheVariants.{Write, Cut, Sync, Begin, Append, Replace}
 

@@ -1,9 +1,9 @@
 ghost use Rattle.std.specs.Prelude.{◌≡◌, false};
-ghost use Rattle.envy_record.specs.Calls.{is_failure};
-ghost use Rattle.envy_record.specs.Noted.{call_of};
+ghost use Rattle.envy_device.specs.Calls.{is_failure};
+ghost use Rattle.envy_device.specs.Noted.{call_of};
 ghost use Rattle.envy_portfile.specs.Orders.{behind_of, done_of, failed_of, header_of, number_of, place_of};
 
-use envy_record::Made;
+use envy_device::Made;
 
 /// What is ordered of a file.
 #[derive(Clone, Copy, Drop)]

@@ -1,11 +1,10 @@
 ghost use Rattle.std.specs.Prelude.{◌≡◌, true, false};
 ghost use Rattle.envy_device.specs.Device.{Only};
-ghost use Rattle.envy_record.specs.Calls.{MayLeave, Notes, have_failed, is_failure, seen_after};
+ghost use Rattle.envy_device.specs.Calls.{MayLeave, Notes, have_failed, is_failure, seen_after};
 ghost use Rattle.envy_portfile.specs.Orders.{done_of, failed_of};
 
 use crate::order::{Order, done, failed};
-use envy_device::{DeviceFailed, ReplaceError, SecondFailed};
-use envy_record::{Made, RawFile, Record, Recorded};
+use envy_device::{DeviceFailed, FileCalls, LoggedFile, Made, Record, ReplaceError, SecondFailed};
 
 /// The answer that says that an order was carried out.
 const DONE: u8 = 0;
@@ -26,7 +25,7 @@ pub struct FilePort {
 }
 
 /// A file behind a port, as a device.
-pub type PortFile = Recorded<FilePort>;
+pub type PortFile = LoggedFile<FilePort>;
 
 impl FilePort {
     /// The file behind a port, which was brought to the disk and then read whole from there: it holds these bytes. That it is written
@@ -43,7 +42,7 @@ impl FilePort {
             failed: false,
             record,
         };
-        Recorded::found(port, bytes, bytewise)
+        LoggedFile::found(port, bytes, bytewise)
     }
 
     // Gives an order, and waits for the answer. Nothing else here calls the port.
@@ -87,7 +86,7 @@ impl FilePort {
     }
 }
 
-impl RawFile for FilePort {
+impl FileCalls for FilePort {
     ghost calls = { λ port. port.record.calls };
 
     fn has_failed(&self) -> bool {

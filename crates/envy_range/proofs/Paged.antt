@@ -1,7 +1,7 @@
 -- The pages of a range.
 use Rattle.std.proofs.Common.{◌≡◌, ◌⊎◌, ℕ, ◌+◌, ◌/◌, ◌%◌, ◌<◌, ◌||◌, Bool, true, false, IsTrue, eqb, List, [], ◌∷◌, map, refl, ap, sym, subst, inl, inr, arith}
 use Rattle.std.proofs.lemmas.Bool.{cases_lt, eq-eqb, eqb-true}
-use Rattle.envy_base.specs.Words.{has}
+use Rattle.envy_array.specs.Words.{has}
 use Rattle.envy_range.specs.Ranges.{page_in}
 
 either : (a b : Bool) → IsTrue (a || b) → IsTrue a ⊎ IsTrue b

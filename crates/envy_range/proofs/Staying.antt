@@ -1,6 +1,6 @@
 -- What stays outside a range, by what its view tells of the words beside it.
 use Rattle.std.proofs.Common.{◌≡◌, ◌⊎◌, ℕ, ◌+◌, false, List, ◌++◌, length, drop, get_or, ap, sym, ◌∙◌, inl, inr}
-use Rattle.envy_base.specs.Words.{Sheet, IsSheet, Works, Keeps}
+use Rattle.envy_array.specs.Words.{Sheet, IsSheet, Works, Keeps}
 use Rattle.envy_range.specs.Ranges.{outside, within, Stays}
 use Rattle.envy_range.proofs.Lengths.{apart-sizes}
 

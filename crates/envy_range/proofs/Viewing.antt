@@ -4,7 +4,7 @@ use Rattle.std.proofs.lemmas.List.{length-map}
 use Rattle.envy_base.specs.declared.board.Off.{Off}
 use Rattle.envy_base.specs.declared.board.Trouble.{Trouble}
 use Rattle.envy_base.specs.declared.board.Trouble.TheVariants.{Off as TroubleOff, Bad}
-use Rattle.envy_base.specs.Words.{Sheet, IsSheet, Works, Spends, OnPage, Keeps, Loads, Puts, Starts, Finishes, Undoes, has}
+use Rattle.envy_array.specs.Words.{Sheet, IsSheet, Works, Spends, OnPage, Keeps, Loads, Puts, Starts, Finishes, Undoes, has}
 use Rattle.envy_range.specs.Ranges.{inside, outside, page_in, within}
 use Rattle.envy_range.proofs.Paged.{own-put, page-fits, page-of, put-own, still-there}
 use Rattle.envy_range.specs.Lawful.{inside-long}
@@ -42,6 +42,7 @@ works-view k first count s t fits law stay w = record {
   kept = ap (inside first count) w.kept;
   room = w.room;
   fixed = fixed-view first count s t w.long w.fixed;
+  notes = w.notes;
   cuts = w.cuts;
   bads = w.bads;
   dark = w.dark;
@@ -59,6 +60,7 @@ keeps-view first count s t fits law stay k = record {
   long = size-view first count s t fits k.long;
   room = k.room;
   fixed = fixed-view first count s t k.long k.fixed;
+  notes = k.notes;
   cuts = k.cuts;
   bads = k.bads;
   dark = k.dark;

@@ -2,7 +2,7 @@
 use Rattle.std.specs.Prelude.{◌≡◌, ℕ, ◌+◌, ◌≤◌, List, ◌++◌, length, drop}
 use Rattle.std.proofs.Common.{ap, sym, ◌∙◌, arith}
 use Rattle.std.proofs.lemmas.List.{length-drop, length-take-le}
-use Rattle.envy_base.specs.Words.{Sheet, IsSheet}
+use Rattle.envy_array.specs.Words.{Sheet, IsSheet}
 use Rattle.envy_range.specs.Ranges.{inside, outside, within}
 
 -- there are as many words in a range as it says

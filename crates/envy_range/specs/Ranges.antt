@@ -1,6 +1,6 @@
 -- The words of a range of a memory, as a memory of their own.
 use Rattle.std.specs.Prelude.{◌≡◌, ◌⊎◌, ℕ, ◌+◌, ◌-◌, ◌/◌, ◌≤◌, nat_lt, false, List, ◌∷◌, ◌++◌, length, map, take, drop, if◌then◌else◌}
-use Rattle.envy_base.specs.Words.{Sheet}
+use Rattle.envy_array.specs.Words.{Sheet}
 use Rattle.envy_base.specs.declared.page.TheConstants.{PAGE_WORDS}
 
 -- the words of the range of so many words from `first` on, and all other words
@@ -30,6 +30,7 @@ within first count s = record {
   work = s.work;
   price = s.price;
   fixed = first ∷ count ∷ length s.words ∷ s.fixed;
+  notes = s.notes;
   beside = outside first count s.words ++ s.beside;
   kept_beside = outside first count s.kept ++ s.kept_beside;
 }

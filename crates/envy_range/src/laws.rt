@@ -1,5 +1,5 @@
 ghost use Rattle.std.specs.Prelude.{◌≡◌, ◌≤◌, ◌+◌, ℕ, List, false, length};
-ghost use Rattle.envy_base.specs.Words.{IsSheet, Keeps, Sheet, Works};
+ghost use Rattle.envy_array.specs.Words.{IsSheet, Keeps, Sheet, Works};
 ghost use Rattle.envy_range.specs.Ranges.{inside, outside, within, IsApart, Stays};
 
 /// If the words outside a range stay, those of each range that doesn't overlap it do.

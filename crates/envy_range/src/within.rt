@@ -2,7 +2,8 @@ ghost use Rattle.std.specs.Prelude.{◌≡◌, ◌≤◌, ◌+◌, ◌%◌, leng
 ghost use Rattle.envy_base.specs.declared.page.TheConstants.{PAGE_WORDS};
 ghost use Rattle.envy_range.specs.Ranges.{within};
 
-use envy_base::{Off, Trouble, Words};
+use envy_array::Words;
+use envy_base::{Off, Trouble};
 
 /// The words of a range, as a memory of words that begins at address 0. Its pages are the range's, and
 /// a transaction is the memory's own: what it has put outside the range counts against its room too.

@@ -1,7 +1,7 @@
 -- The board that memory of a caller's is.
 use Rattle.std.specs.Prelude.{◌≡◌, ◌<◌, ◌≤◌, ℕ, true, List, [], length, slice_index_or, None}
 use Rattle.envy_base.specs.declared.shape.Shape.{Shape}
-use Rattle.envy_base.specs.State.{State, ones}
+use Rattle.envy_base.specs.State.{State, no_notes, ones}
 
 -- Power is on, it never failed and nothing was planned, and no operation went wrong.
 abbrev pub region_state : Shape → List (List ℕ) → List ℕ → List ℕ → ℕ → State
@@ -19,6 +19,7 @@ region_state shape flash sram erases begun = record {
   last_plan = None;
   lives = 0;
   given = 0;
+  notes = no_notes;
 }
 
 -- the rows from one up to another are all ones, and the others are as before

@@ -1,16 +1,19 @@
-//! A board over memory that its caller owns: flash as rows of 32 words, SRAM as words, and a count of erases for each
-//! segment, as of a file that is mapped.
+//! Boards over plain memory: flash as rows of 32 words, SRAM as words, and a count of erases for each segment.
 //!
-//! `OrderedBoard` is the same with a barrier after each put, for memory that outlives power.
+//! `BorrowedBoard` is over memory that its caller owns, as of a file that is mapped. `OrderedBoard` is the same with a barrier
+//! after each put, for memory that outlives power. `OwnedBoard` has memory of its own, and a row of it takes none before it is
+//! programmed.
 //!
-//! Power doesn't fail here, and no flash operation goes wrong. Where the process that owns the memory is killed inside
-//! a call, what it leaves is what a failure of power leaves. Nothing costs more than the words that it writes.
+//! Power doesn't fail here, and no flash operation goes wrong. If the process that owns the memory is killed inside
+//! a call, what it leaves is what a failure of power leaves.
 #![tactic(auto)]
 
-mod board;
-mod ordered;
+mod borrowed_board;
+mod ordered_board;
+mod owned_board;
 #[cfg(test)]
 mod tests;
 
-pub use board::{RegionBoard, anded, fill};
-pub use ordered::{Fence, OrderedBoard};
+pub use borrowed_board::{BorrowedBoard, anded, fill};
+pub use ordered_board::{Fence, OrderedBoard};
+pub use owned_board::OwnedBoard;

@@ -1,7 +1,7 @@
 ghost use Rattle.std.specs.Prelude.{None};
 
 use crate::Fence;
-use crate::ordered::put_word;
+use crate::ordered_board::put_word;
 
 /// A fence that notes the word that it was called after.
 #[derive(Drop)]

@@ -9,10 +9,10 @@ use Rattle.envy_base.specs.declared.fields.Job.TheVariants.{Idle, Copy, Switch, 
 use Rattle.envy_base.specs.declared.shape.Shape.{Shape}
 use Rattle.envy_map.specs.Fields.{Fields, Chart, with_fields}
 use Rattle.envy_map.specs.Writes.{with_back, with_fill, with_job}
-use Rattle.envy_layout.specs.Sound.{Sound, IsSound, IsPlaced, IsSpare, Names, Numbers, Blanks}
-use Rattle.envy_layout.proofs.NamingLemmas.{Names-into, named-page, job-named, fills-named, positions-named, origins-named}
-use Rattle.envy_layout.proofs.References.{apart-spare, row-of}
-use Rattle.envy_layout.proofs.SpareLemmas.{one-spare, some-spare}
+use Rattle.envy_soundness.specs.Sound.{Sound, IsSound, IsPlaced, IsSpare, Names, Numbers, Blanks}
+use Rattle.envy_soundness.proofs.NamingLemmas.{Names-into, named-page, job-named, fills-named, positions-named, origins-named}
+use Rattle.envy_soundness.proofs.References.{apart-spare, row-of}
+use Rattle.envy_soundness.proofs.SpareLemmas.{one-spare, some-spare}
 use Rattle.envy_space.specs.Pool.{Pool, PoolAgrees, IsPoolOf}
 use Rattle.envy_space.specs.Retiring.{IsFresh}
 use Rattle.envy_reloc.specs.declared.step.Phase.{Phase}

@@ -16,13 +16,13 @@ use Rattle.envy_map.specs.Fields.{Fields, Chart, with_fields}
 use Rattle.envy_map.specs.Writes.{with_back, with_fill, with_origin}
 use Rattle.envy_space.specs.Pool.{Claims}
 use Rattle.envy_reloc.specs.Keeping.{ClaimsCopy}
-use Rattle.envy_layout.specs.Jobs.{IsCopiedWhole}
-use Rattle.envy_layout.specs.Sound.{Sound, Numbers, Rows, Jobs, IsSound, Names, IsPlaced, IsSpare}
-use Rattle.envy_layout.specs.Sound as Layout
-use Rattle.envy_layout.proofs.Claimed.{AreHome-copying}
-use Rattle.envy_layout.proofs.References.{apart-spare, copy-segment}
-use Rattle.envy_layout.proofs.SpareLemmas.{one-spare}
-use Rattle.envy_reloc.specs.declared.copying.Left.{Left}
+use Rattle.envy_soundness.specs.Jobs.{IsCopiedWhole}
+use Rattle.envy_soundness.specs.Sound.{Sound, Numbers, Rows, Jobs, IsSound, Names, IsPlaced, IsSpare}
+use Rattle.envy_soundness.specs.Sound as Layout
+use Rattle.envy_soundness.proofs.Claimed.{AreHome-copying}
+use Rattle.envy_soundness.proofs.References.{apart-spare, copy-segment}
+use Rattle.envy_soundness.proofs.SpareLemmas.{one-spare}
+use Rattle.envy_reloc.specs.declared.row_copy.Left.{Left}
 use Rattle.envy_reloc.specs.Phases.{copied_to, CopiesLeft}
 use Rattle.envy_reloc.specs.Plan.{Plan, IsPlanOf, IsMarked, IsCopy, AreCopies, HasCopy}
 use Rattle.envy_reloc.specs.Rows.{IsLeft, IsLowestLeft, AreAllCopied, NextKept}

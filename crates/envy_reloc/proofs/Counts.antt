@@ -8,12 +8,12 @@ use Rattle.envy_base.specs.declared.fields.Job.TheVariants.{Copy}
 use Rattle.envy_base.specs.declared.shape.Shape.{Shape}
 use Rattle.envy_base.specs.Counting.{Tally}
 use Rattle.envy_map.specs.Fields.{Fields, Chart}
-use Rattle.envy_layout.specs.Same.{Same, Stays, Counted}
-use Rattle.envy_layout.specs.Sound.{IsKept}
+use Rattle.envy_soundness.specs.Same.{Same, Stays, Counted}
+use Rattle.envy_soundness.specs.Sound.{IsKept}
 use Rattle.envy_reloc.specs.Phases.{CountsBegun, CountsApart, HasNoMove, IsFirstMove, NextMove}
 use Rattle.envy_reloc.specs.Plan.{Plan}
 use Rattle.envy_reloc.specs.Rows.{IsLowestRoom}
-use Rattle.envy_reloc.specs.declared.moving.Move.{Move}
+use Rattle.envy_reloc.specs.declared.row_move.Move.{Move}
 
 -- what a plan counts, by the counts of one phase
 pub counts_by_copy : (old new : Chart) (plan then_plan : Plan) → Same 1 0 old new → Tally old.begun plan.copied new.begun then_plan.copied → then_plan.moved ≡ plan.moved → then_plan.erased ≡ plan.erased → then_plan.since ≡ plan.since → CountsBegun old plan new then_plan

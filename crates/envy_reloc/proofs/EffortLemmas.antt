@@ -9,15 +9,15 @@ use Rattle.envy_base.specs.declared.fields.Job.TheVariants.{Idle, Copy, Switch, 
 use Rattle.envy_base.specs.declared.shape.Shape.{Shape}
 use Rattle.envy_map.specs.Fields.{Fields, Chart, with_fields}
 use Rattle.envy_map.specs.Writes.{with_job}
-use Rattle.envy_layout.specs.Frames.{FramesStay}
-use Rattle.envy_layout.specs.Naming.{IsNamed}
-use Rattle.envy_layout.specs.Same.{Same, Stays, Framed}
-use Rattle.envy_layout.specs.Sound.{Sound, Blanks, IsSound, IsPlaced, IsSpare, Numbers}
-use Rattle.envy_layout.proofs.Composition.{Same-more}
-use Rattle.envy_layout.proofs.NamingLemmas.{FramesStay-named, job-named, fills-named, positions-named}
-use Rattle.envy_layout.proofs.References.{apart-spare}
-use Rattle.envy_layout.proofs.SpareLemmas.{one-spare, some-spare}
-use Rattle.envy_reloc.specs.declared.moving.Move.{Move}
+use Rattle.envy_soundness.specs.Frames.{FramesStay}
+use Rattle.envy_soundness.specs.Naming.{IsNamed}
+use Rattle.envy_soundness.specs.Same.{Same, Stays, Framed}
+use Rattle.envy_soundness.specs.Sound.{Sound, Blanks, IsSound, IsPlaced, IsSpare, Numbers}
+use Rattle.envy_soundness.proofs.Composition.{Same-more}
+use Rattle.envy_soundness.proofs.NamingLemmas.{FramesStay-named, job-named, fills-named, positions-named}
+use Rattle.envy_soundness.proofs.References.{apart-spare}
+use Rattle.envy_soundness.proofs.SpareLemmas.{one-spare, some-spare}
+use Rattle.envy_reloc.specs.declared.row_move.Move.{Move}
 use Rattle.envy_reloc.specs.declared.step.Phase.{Phase}
 use Rattle.envy_reloc.specs.declared.step.Phase.TheVariants.{Moved, Copied, Switched, Placed, Erased}
 use Rattle.envy_reloc.specs.Effort.{LeftOf, Leaves, Spent, programs_of, erases_of}

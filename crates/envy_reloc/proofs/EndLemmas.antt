@@ -6,11 +6,11 @@ use Rattle.envy_base.specs.declared.shape.Shape.{Shape}
 use Rattle.envy_base.specs.declared.fields.Job.TheVariants.{Idle, Switch, Erase}
 use Rattle.envy_map.specs.Fields.{Fields, Chart, with_fields}
 use Rattle.envy_map.specs.Writes.{with_fill, with_job, with_wear}
-use Rattle.envy_layout.specs.Jobs.{AreHome, IsBlankSpare}
-use Rattle.envy_layout.specs.Sound.{Sound, Numbers, IsSound, IsPlaced, IsSpare}
-use Rattle.envy_layout.proofs.JobLaw.{AreHome-unless}
-use Rattle.envy_layout.proofs.KeptCounts.{kept_in-none}
-use Rattle.envy_layout.proofs.References.{apart-spare}
+use Rattle.envy_soundness.specs.Jobs.{AreHome, IsBlankSpare}
+use Rattle.envy_soundness.specs.Sound.{Sound, Numbers, IsSound, IsPlaced, IsSpare}
+use Rattle.envy_soundness.proofs.JobLaw.{AreHome-unless}
+use Rattle.envy_soundness.proofs.KeptCounts.{kept_in-none}
+use Rattle.envy_soundness.proofs.References.{apart-spare}
 use Rattle.envy_space.specs.Pool.{Pool, PoolAgrees, with_filled}
 
 -- while the spare is erased, no row of it is kept

@@ -6,8 +6,8 @@ use Rattle.envy_base.specs.declared.board.Trouble.TheVariants.{Off as TroubleOff
 use Rattle.envy_base.specs.Counting.{Tally}
 use Rattle.envy_map.specs.Fields.{Chart}
 use Rattle.envy_base.specs.declared.board.Off.{Off}
-use Rattle.envy_layout.specs.Power.{power_of, power_after}
-use Rattle.envy_layout.specs.Same.{Same, Stays, Counted, Grows}
+use Rattle.envy_soundness.specs.Power.{power_of, power_after}
+use Rattle.envy_soundness.specs.Same.{Same, Stays, Counted, Grows}
 
 -- what holds where power is on, where it is off
 pub unpowered : {P : Type 0} (b : Bool) → b ≡ false → IsTrue b → P

@@ -9,10 +9,10 @@ use Rattle.envy_base.specs.declared.shape.Shape.{Shape}
 use Rattle.envy_base.specs.declared.fields.Place.{Place}
 use Rattle.envy_base.specs.declared.fields.Place.TheVariants.{Absent, Row, Frame}
 use Rattle.envy_map.specs.Fields.{Fields, Chart, place}
-use Rattle.envy_layout.specs.Frames.{FramesStay}
-use Rattle.envy_layout.specs.Power.{power_after}
-use Rattle.envy_layout.specs.Same.{Same, Stays, Framed}
-use Rattle.envy_layout.proofs.FrameStay.{FramesStay-refl}
+use Rattle.envy_soundness.specs.Frames.{FramesStay}
+use Rattle.envy_soundness.specs.Power.{power_after}
+use Rattle.envy_soundness.specs.Same.{Same, Stays, Framed}
+use Rattle.envy_soundness.proofs.FrameStay.{FramesStay-refl}
 use Rattle.envy_space.specs.Pool.{Pool}
 use Rattle.envy_table.specs.Agreement.{AreCurrent}
 use Rattle.envy_table.specs.Entries.{Translations}

@@ -9,11 +9,11 @@ use Rattle.envy_base.specs.declared.shape.Shape.{Shape}
 use Rattle.envy_base.specs.declared.fields.Job.TheVariants.{Copy, Switch}
 use Rattle.envy_map.specs.Fields.{Fields, Chart}
 use Rattle.envy_map.specs.Writes.{with_back, with_fill}
-use Rattle.envy_layout.specs.Naming.{with_named}
-use Rattle.envy_layout.specs.Sound.{Numbers, Sound, IsSound, IsKept, Names, IsPlaced, IsSpare}
-use Rattle.envy_layout.proofs.NamingLemmas.{Names-into, named-page, job-named, positions-named, fills-named, backs-named, origins-named}
-use Rattle.envy_layout.proofs.References.{apart-spare}
-use Rattle.envy_reloc.specs.declared.moving.Move.{Move}
+use Rattle.envy_soundness.specs.Naming.{with_named}
+use Rattle.envy_soundness.specs.Sound.{Numbers, Sound, IsSound, IsKept, Names, IsPlaced, IsSpare}
+use Rattle.envy_soundness.proofs.NamingLemmas.{Names-into, named-page, job-named, positions-named, fills-named, backs-named, origins-named}
+use Rattle.envy_soundness.proofs.References.{apart-spare}
+use Rattle.envy_reloc.specs.declared.row_move.Move.{Move}
 use Rattle.envy_reloc.specs.Phases.{MovesRow, moved_to}
 use Rattle.envy_reloc.specs.Plan.{Plan, IsPlanOf, IsCopy, AreCopies, HasCopy}
 

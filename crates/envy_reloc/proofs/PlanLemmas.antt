@@ -6,7 +6,7 @@ use Rattle.envy_base.specs.declared.fields.Job.{Job}
 use Rattle.envy_base.specs.declared.fields.Job.TheVariants.{Idle, Copy, Switch, Erase}
 use Rattle.envy_map.specs.Fields.{Fields}
 use Rattle.envy_map.specs.Writes.{with_job}
-use Rattle.envy_layout.specs.Sound.{Sound, Blanks, Jobs, IsPlaced, IsSpare}
+use Rattle.envy_soundness.specs.Sound.{Sound, Blanks, Jobs, IsPlaced, IsSpare}
 use Rattle.envy_reloc.specs.Switching.{SwitchesAll}
 use Rattle.envy_reloc.specs.Plan.{Plan, IsMarked, IsPlanOf}
 use Rattle.envy_base.specs.Shape.{positions_of}

@@ -7,8 +7,8 @@ use Rattle.envy_base.specs.declared.fields.Job.TheVariants.{Idle}
 use Rattle.envy_base.specs.declared.shape.Shape.{Shape}
 use Rattle.envy_map.specs.Fields.{Fields, Chart, with_fields}
 use Rattle.envy_map.specs.Writes.{with_fill, with_job, with_position, with_wear}
-use Rattle.envy_layout.specs.Sound.{IsSpare, IsSound}
-use Rattle.envy_layout.proofs.SpareLemmas.{one-spare}
+use Rattle.envy_soundness.specs.Sound.{IsSpare, IsSound}
+use Rattle.envy_soundness.proofs.SpareLemmas.{one-spare}
 use Rattle.envy_space.specs.Retiring.{LowestFresh}
 use Rattle.envy_reloc.specs.Phases.{Empties, Retires}
 

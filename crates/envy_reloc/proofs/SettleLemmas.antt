@@ -11,10 +11,10 @@ use Rattle.envy_base.specs.declared.fields.Undo.TheVariants.{Clear, Shadow}
 use Rattle.envy_base.specs.declared.shape.Shape.{Shape}
 use Rattle.envy_map.specs.Fields.{Fields, Chart, undo}
 use Rattle.envy_map.specs.Writes.{Writes, with_job, with_position}
-use Rattle.envy_layout.specs.Jobs.{IsClear}
-use Rattle.envy_layout.specs.Naming.{AreParted}
-use Rattle.envy_layout.specs.Sound.{Sound, Jobs, IsSound, IsPlaced, IsSpare}
-use Rattle.envy_layout.proofs.References.{copy-segment}
+use Rattle.envy_soundness.specs.Jobs.{IsClear}
+use Rattle.envy_soundness.specs.Naming.{AreParted}
+use Rattle.envy_soundness.specs.Sound.{Sound, Jobs, IsSound, IsPlaced, IsSpare}
+use Rattle.envy_soundness.proofs.References.{copy-segment}
 use Rattle.envy_reloc.specs.Settling.{KeepsOthers, Finishes}
 use Rattle.envy_reloc.specs.Switching.{SwitchesPlace, SwitchesRows}
 use Rattle.envy_reloc.proofs.SwitchLemmas.{IsClear-rows}

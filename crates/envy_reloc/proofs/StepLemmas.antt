@@ -9,11 +9,11 @@ use Rattle.envy_base.specs.declared.board.Trouble.TheVariants.{Bad}
 use Rattle.envy_base.specs.declared.fields.Job.TheVariants.{Copy}
 use Rattle.envy_base.specs.declared.shape.Shape.{Shape}
 use Rattle.envy_map.specs.Fields.{Fields, Chart}
-use Rattle.envy_layout.specs.Same.{Same}
-use Rattle.envy_layout.specs.Sound.{IsSound, IsSpare}
-use Rattle.envy_layout.proofs.SpareLemmas.{one-spare}
+use Rattle.envy_soundness.specs.Same.{Same}
+use Rattle.envy_soundness.specs.Sound.{IsSound, IsSpare}
+use Rattle.envy_soundness.proofs.SpareLemmas.{one-spare}
 use Rattle.envy_space.specs.Pool.{Pool, PoolAgrees, IsPoolOf}
-use Rattle.envy_reloc.specs.declared.copying.Left.{Left}
+use Rattle.envy_reloc.specs.declared.row_copy.Left.{Left}
 use Rattle.envy_reloc.specs.Effort.{Leaves}
 use Rattle.envy_reloc.specs.Phases.{IsFirstMove, HasNoMove, CopiesOne, CopiesLeft, SpoilsCopy, SpoilsRow, SwitchesSegment}
 use Rattle.envy_reloc.specs.Plan.{Plan, IsPlanOf}

@@ -4,9 +4,9 @@ use Rattle.envy_base.specs.declared.fields.Job.{Job}
 use Rattle.envy_base.specs.declared.fields.Job.TheVariants.{Idle, Erase}
 use Rattle.envy_base.specs.declared.shape.Shape.{Shape}
 use Rattle.envy_map.specs.Fields.{Fields, Chart}
-use Rattle.envy_layout.specs.Naming.{AreParted}
-use Rattle.envy_layout.specs.Same.{Same}
-use Rattle.envy_layout.proofs.FrameStay.{FramesStay-refl}
+use Rattle.envy_soundness.specs.Naming.{AreParted}
+use Rattle.envy_soundness.specs.Same.{Same}
+use Rattle.envy_soundness.proofs.FrameStay.{FramesStay-refl}
 use Rattle.envy_space.specs.Pool.{Pool, PoolAgrees}
 use Rattle.envy_table.specs.Agreement.{AreCurrent}
 use Rattle.envy_table.specs.Entries.{Translations}

@@ -2,8 +2,8 @@
 use Rattle.std.proofs.Common.{◌≡◌, ◌∙◌, ℕ, ◌<◌, refl, sym, ap}
 use Rattle.envy_base.specs.Counting.{up}
 use Rattle.envy_map.specs.Fields.{Chart}
-use Rattle.envy_layout.specs.Same.{Same}
-use Rattle.envy_layout.specs.Sound.{IsSound}
+use Rattle.envy_soundness.specs.Same.{Same}
+use Rattle.envy_soundness.specs.Sound.{IsSound}
 use Rattle.envy_reloc.specs.Effort.{programs_of, erases_of}
 use Rattle.envy_reloc.specs.Keeping.{Steps}
 use Rattle.envy_reloc.specs.Phases.{Does, MovesOne, CopiesOne, SwitchesSegment, PlacesSpare, ErasesSpare, counted_by}

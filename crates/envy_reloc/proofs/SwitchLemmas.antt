@@ -12,23 +12,23 @@ use Rattle.envy_base.specs.declared.fields.Undo.{Undo}
 use Rattle.envy_base.specs.declared.fields.Undo.TheVariants.{Clear, Shadow}
 use Rattle.envy_map.specs.Fields.{Fields, Chart, with_fields, place, undo, slot}
 use Rattle.envy_map.specs.Writes.{with_job, with_place, with_undo}
-use Rattle.envy_layout.specs.Frames.{FramesStay}
-use Rattle.envy_layout.specs.Jobs.{IsClear}
-use Rattle.envy_layout.specs.May.{IsCopied}
-use Rattle.envy_layout.specs.Naming.{IsNamed, with_named, AreParted}
-use Rattle.envy_layout.specs.Sound.{Sound, Slots, Places, Rows, Jobs, Copies, IsSound, Names, IsPlaced, IsSpare, owned_by}
-use Rattle.envy_layout.specs.Words.{kept_by}
-use Rattle.envy_layout.proofs.KeptLemmas.{kept_by-active, kept_by-free, kept_by-shadow}
-use Rattle.envy_layout.proofs.NamingLemmas.{Names-named, AreParted-named, fields-named}
-use Rattle.envy_layout.proofs.PlaceLaw.{PlaceCases, place-cases}
-use Rattle.envy_layout.proofs.References.{apart-spare, copy-segment}
-use Rattle.envy_layout.proofs.UndoLaw.{UndoCases, undo-cases}
+use Rattle.envy_soundness.specs.Frames.{FramesStay}
+use Rattle.envy_soundness.specs.Jobs.{IsClear}
+use Rattle.envy_soundness.specs.May.{IsCopied}
+use Rattle.envy_soundness.specs.Naming.{IsNamed, with_named, AreParted}
+use Rattle.envy_soundness.specs.Sound.{Sound, Slots, Places, Rows, Jobs, Copies, IsSound, Names, IsPlaced, IsSpare, owned_by}
+use Rattle.envy_soundness.specs.Words.{kept_by}
+use Rattle.envy_soundness.proofs.KeptLemmas.{kept_by-active, kept_by-free, kept_by-shadow}
+use Rattle.envy_soundness.proofs.NamingLemmas.{Names-named, AreParted-named, fields-named}
+use Rattle.envy_soundness.proofs.PlaceLaw.{PlaceCases, place-cases}
+use Rattle.envy_soundness.proofs.References.{apart-spare, copy-segment}
+use Rattle.envy_soundness.proofs.UndoLaw.{UndoCases, undo-cases}
 use Rattle.envy_space.specs.Following.{Followed}
 use Rattle.envy_space.specs.Pool.{Pool, PoolAgrees}
 use Rattle.envy_space.proofs.FollowLemmas.{Followed-named}
 use Rattle.envy_table.specs.Agreement.{AreCurrent}
 use Rattle.envy_table.specs.Entries.{Entry}
-use Rattle.envy_reloc.specs.declared.switching.Switched.{Switched}
+use Rattle.envy_reloc.specs.declared.row_switch.Switched.{Switched}
 use Rattle.envy_reloc.specs.Switching.{SwitchesRow, SwitchesPlace, SwitchesUndo, SwitchesRows, SwitchesAll}
 
 -- a row that a page names, its place does or its undo, whose slot is active

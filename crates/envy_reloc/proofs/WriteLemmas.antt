@@ -12,11 +12,11 @@ use Rattle.envy_base.specs.declared.fields.Undo.TheVariants.{Clear, Blank, Shado
 use Rattle.envy_base.specs.declared.shape.Shape.{Shape}
 use Rattle.envy_map.specs.Fields.{Fields, place, undo, slot}
 use Rattle.envy_map.specs.Writes.{with_back, with_fill, with_place, with_undo, with_slot}
-use Rattle.envy_layout.specs.May.{IsUnused}
-use Rattle.envy_layout.specs.Sound.{Sound, Slots, Places, Names, IsPlaced, IsSpare, slot_named}
-use Rattle.envy_layout.proofs.PlaceLaw.{Names-placed}
-use Rattle.envy_layout.proofs.References.{apart-spare, copy-segment}
-use Rattle.envy_layout.proofs.UndoLaw.{UndoCases, undo-cases}
+use Rattle.envy_soundness.specs.May.{IsUnused}
+use Rattle.envy_soundness.specs.Sound.{Sound, Slots, Places, Names, IsPlaced, IsSpare, slot_named}
+use Rattle.envy_soundness.proofs.PlaceLaw.{Names-placed}
+use Rattle.envy_soundness.proofs.References.{apart-spare, copy-segment}
+use Rattle.envy_soundness.proofs.UndoLaw.{UndoCases, undo-cases}
 use Rattle.envy_reloc.specs.Plan.{Plan, IsPlanOf, AreCopies, IsFreeOf}
 use Rattle.envy_reloc.proofs.SwitchLemmas.{Names-cases, Names-undo}
 

@@ -5,7 +5,7 @@ use Rattle.envy_base.specs.declared.fields.Job.{Job}
 use Rattle.envy_base.specs.declared.fields.Job.TheVariants.{Idle, Copy, Switch, Erase}
 use Rattle.envy_base.specs.declared.shape.Shape.{Shape}
 use Rattle.envy_map.specs.Fields.{Fields}
-use Rattle.envy_layout.specs.Sound.{IsSpare, Names}
+use Rattle.envy_soundness.specs.Sound.{IsSpare, Names}
 use Rattle.envy_base.specs.Shape.{all_positions_of, positions_of}
 
 -- row d is dead, and no row of the spare e was copied from it

@@ -4,8 +4,8 @@ use Rattle.envy_base.specs.declared.fields.Job.{Job}
 use Rattle.envy_base.specs.declared.fields.Job.TheVariants.{Idle, Copy, Switch, Erase}
 use Rattle.envy_base.specs.declared.shape.Shape.{Shape}
 use Rattle.envy_map.specs.Fields.{Chart}
-use Rattle.envy_layout.specs.Same.{Same}
-use Rattle.envy_layout.specs.Sound.{IsSpare}
+use Rattle.envy_soundness.specs.Same.{Same}
+use Rattle.envy_soundness.specs.Sound.{IsSpare}
 use Rattle.envy_reloc.specs.Plan.{Plan}
 use Rattle.envy_reloc.specs.declared.step.Phase.{Phase}
 use Rattle.envy_reloc.specs.declared.step.Phase.TheVariants.{Moved, Copied, Switched, Placed, Erased}

@@ -4,10 +4,10 @@ use Rattle.envy_base.specs.Counting.{up, Tally}
 use Rattle.envy_base.specs.declared.fields.Job.TheVariants.{Idle, Copy, Erase}
 use Rattle.envy_map.specs.Fields.{Chart, with_fields}
 use Rattle.envy_map.specs.Writes.{with_back, with_fill, with_job}
-use Rattle.envy_layout.specs.Frames.{FramesStay}
-use Rattle.envy_layout.specs.Naming.{IsNamed, AreParted}
-use Rattle.envy_layout.specs.Same.{Same}
-use Rattle.envy_layout.specs.Sound.{IsSound, IsPlaced, IsSpare, IsKept, Names}
+use Rattle.envy_soundness.specs.Frames.{FramesStay}
+use Rattle.envy_soundness.specs.Naming.{IsNamed, AreParted}
+use Rattle.envy_soundness.specs.Same.{Same}
+use Rattle.envy_soundness.specs.Sound.{IsSound, IsPlaced, IsSpare, IsKept, Names}
 use Rattle.envy_space.specs.Pool.{Pool, PoolAgrees}
 use Rattle.envy_table.specs.Agreement.{AreCurrent}
 use Rattle.envy_table.specs.Entries.{Entry, Translations}
@@ -17,8 +17,8 @@ use Rattle.envy_reloc.specs.Effort.{programs_of, erases_of, Leaves, Spent}
 use Rattle.envy_reloc.specs.Phases.{copied_to, CopiesLeft, Does, MovesRow, Spoils, SpoilsRow, SpoilsTarget, counted_by}
 use Rattle.envy_reloc.specs.Plan.{Plan, AreCopies, IsPlanOf}
 use Rattle.envy_reloc.specs.Rows.{HasRoom, IsLeft}
-use Rattle.envy_reloc.specs.declared.copying.Left.{Left}
-use Rattle.envy_reloc.specs.declared.moving.Move.{Move}
+use Rattle.envy_reloc.specs.declared.row_copy.Left.{Left}
+use Rattle.envy_reloc.specs.declared.row_move.Move.{Move}
 use Rattle.envy_reloc.specs.declared.step.Phase.{Phase}
 use Rattle.envy_base.specs.Shape.{positions_of}
 

@@ -6,12 +6,10 @@ pub mod Plan
 pub mod Rows
 pub mod Settling
 pub mod Switching
-pub use Rattle.envy_base.specs.Array
 pub use Rattle.envy_base.specs.Counting
 pub use Rattle.envy_base.specs.Map
 pub use Rattle.envy_base.specs.Shape
 pub use Rattle.envy_base.specs.State
-pub use Rattle.envy_base.specs.Step
 pub use Rattle.envy_map.specs.Codes
 pub use Rattle.envy_map.specs.Fields
 pub use Rattle.envy_map.specs.Writes

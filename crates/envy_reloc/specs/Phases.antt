@@ -6,13 +6,13 @@ use Rattle.envy_base.specs.declared.shape.Shape.{Shape}
 use Rattle.envy_base.specs.declared.fields.Job.TheVariants.{Idle, Copy, Switch, Erase}
 use Rattle.envy_map.specs.Fields.{Fields, Chart, with_fields}
 use Rattle.envy_map.specs.Writes.{with_back, with_fill, with_job, with_origin, with_position, with_wear}
-use Rattle.envy_layout.specs.Naming.{IsNamed, with_named}
-use Rattle.envy_layout.specs.Same.{Same}
-use Rattle.envy_layout.specs.Sound.{IsSpare, IsKept}
+use Rattle.envy_soundness.specs.Naming.{IsNamed, with_named}
+use Rattle.envy_soundness.specs.Same.{Same}
+use Rattle.envy_soundness.specs.Sound.{IsSpare, IsKept}
 use Rattle.envy_reloc.specs.Plan.{Plan}
 use Rattle.envy_reloc.specs.Rows.{IsLowestLeft, AreAllCopied, HasRoom, IsLowestRoom}
 use Rattle.envy_reloc.specs.Switching.{SwitchesAll}
-use Rattle.envy_reloc.specs.declared.moving.Move.{Move}
+use Rattle.envy_reloc.specs.declared.row_move.Move.{Move}
 use Rattle.envy_reloc.specs.declared.step.Phase.{Phase}
 use Rattle.envy_reloc.specs.declared.step.Phase.TheVariants.{Moved, Copied, Switched, Placed, Erased}
 use Rattle.envy_base.specs.Shape.{positions_of}

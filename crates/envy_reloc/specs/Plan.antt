@@ -7,7 +7,7 @@ use Rattle.envy_base.specs.declared.fields.Place.{Place}
 use Rattle.envy_base.specs.declared.fields.Slot.{Slot}
 use Rattle.envy_base.specs.declared.fields.Undo.{Undo}
 use Rattle.envy_map.specs.Fields.{Fields}
-use Rattle.envy_layout.specs.Sound.{Refers, IsPlaced, IsSpare}
+use Rattle.envy_soundness.specs.Sound.{Refers, IsPlaced, IsSpare}
 use Rattle.envy_base.specs.Shape.{positions_of}
 
 -- What a client sees of a `Reloc`: the rows that are still to be moved to other positions, in order, and the

@@ -2,8 +2,8 @@
 use Rattle.std.specs.Prelude.{◌≡◌, ◌≢◌, ℕ, ◌/◌, ◌<◌, ◌≤◌, List, Option, None, Some, slice_index}
 use Rattle.envy_base.specs.declared.shape.Shape.{Shape}
 use Rattle.envy_map.specs.Fields.{Fields}
-use Rattle.envy_layout.specs.Sound.{Names, IsKept}
-use Rattle.envy_reloc.specs.declared.copying.Left.{Left}
+use Rattle.envy_soundness.specs.Sound.{Names, IsKept}
+use Rattle.envy_reloc.specs.declared.row_copy.Left.{Left}
 use Rattle.envy_reloc.specs.Plan.{HasCopy}
 
 -- row q is kept, and the spare, n rows of which are filled, has no copy of it

@@ -5,7 +5,7 @@ use Rattle.envy_base.specs.declared.fields.Job.{Job}
 use Rattle.envy_base.specs.declared.fields.Job.TheVariants.{Idle, Copy, Switch, Erase}
 use Rattle.envy_map.specs.Fields.{Fields}
 use Rattle.envy_map.specs.Writes.{with_job}
-use Rattle.envy_layout.specs.Sound.{IsPlaced, IsSpare}
+use Rattle.envy_soundness.specs.Sound.{IsPlaced, IsSpare}
 use Rattle.envy_reloc.specs.Switching.{SwitchesPlace}
 use Rattle.envy_base.specs.Shape.{positions_of}
 

@@ -6,10 +6,10 @@ use Rattle.envy_base.specs.declared.fields.Place.TheVariants.{Row}
 use Rattle.envy_base.specs.declared.fields.Slot.TheVariants.{Active}
 use Rattle.envy_base.specs.declared.fields.Undo.TheVariants.{Shadow}
 use Rattle.envy_map.specs.Fields.{Fields, place, undo, slot}
-use Rattle.envy_layout.specs.Jobs.{IsClear}
-use Rattle.envy_layout.specs.Naming.{IsNamed, with_named}
-use Rattle.envy_layout.specs.Sound.{Names}
-use Rattle.envy_reloc.specs.declared.switching.Switched.{Switched}
+use Rattle.envy_soundness.specs.Jobs.{IsClear}
+use Rattle.envy_soundness.specs.Naming.{IsNamed, with_named}
+use Rattle.envy_soundness.specs.Sound.{Names}
+use Rattle.envy_reloc.specs.declared.row_switch.Switched.{Switched}
 
 -- the page that keeps the row that row i of the spare e was copied from names row i of e then
 abbrev pub SwitchesRow : Shape → Fields → ℕ → ℕ → Option Switched → Fields → Type 0

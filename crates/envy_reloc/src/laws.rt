@@ -8,8 +8,8 @@ ghost use Rattle.envy_base.specs.declared.fields.Undo.TheVariants.{Clear, Blank,
 ghost use Rattle.envy_base.specs.declared.shape.Shape.{Shape};
 ghost use Rattle.envy_map.specs.Fields.{Fields};
 ghost use Rattle.envy_map.specs.Writes.{with_back, with_fill, with_place, with_undo, with_slot};
-ghost use Rattle.envy_layout.specs.May.{IsUnused};
-ghost use Rattle.envy_layout.specs.Sound.{Sound, Names, IsPlaced};
+ghost use Rattle.envy_soundness.specs.May.{IsUnused};
+ghost use Rattle.envy_soundness.specs.Sound.{Sound, Names, IsPlaced};
 ghost use Rattle.envy_space.specs.Pool.{Pool, PoolAgrees};
 ghost use Rattle.envy_reloc.specs.Cleaning.{Cleans};
 ghost use Rattle.envy_reloc.specs.Plan.{Plan, IsPlanOf, IsFreeOf};

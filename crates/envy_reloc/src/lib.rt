@@ -4,15 +4,15 @@
 //! map for what is left to be done, and leaves every word of the array as it was, wherever power fails.
 #![tactic(auto)]
 
-mod copying;
-mod ending;
-mod following;
+mod job_end;
 mod laws;
-mod moving;
+mod notes;
 mod reloc;
+mod row_copy;
+mod row_move;
+mod row_switch;
 mod settle;
 mod step;
-mod switching;
 
 pub use laws::{a_cleaning_leaves_room, writes_keep_the_plan};
 pub use reloc::Reloc;

@@ -1,8 +1,8 @@
 ghost use Rattle.std.specs.Prelude.{length, ◌≡◌, ◌+◌, ◌-◌, ◌/◌, ◌<◌, ◌≤◌, ℕ, [], false, IsTrue, All, None, Some, OnOk, slice_index};
 ghost use Rattle.envy_map.specs.Fields.{chart};
-ghost use Rattle.envy_layout.specs.Power.{power_of};
-ghost use Rattle.envy_layout.specs.Same.{Same};
-ghost use Rattle.envy_layout.specs.Sound.{IsSound};
+ghost use Rattle.envy_soundness.specs.Power.{power_of};
+ghost use Rattle.envy_soundness.specs.Same.{Same};
+ghost use Rattle.envy_soundness.specs.Sound.{IsSound};
 ghost use Rattle.envy_space.specs.Pool.{PoolAgrees};
 ghost use Rattle.envy_reloc.specs.Keeping.{Begins, MayBegin};
 ghost use Rattle.envy_reloc.specs.Plan.{Plan, IsPlanOf};
@@ -10,7 +10,7 @@ ghost use Rattle.envy_base.specs.Shape.{positions_of};
 
 use arrayvec::ArrayVec;
 use envy_base::{Board, Off};
-use envy_layout::begin_copy;
+use envy_soundness::begin_copy;
 use envy_space::Space;
 use std::marker::Model;
 

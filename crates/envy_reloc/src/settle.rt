@@ -2,17 +2,17 @@ ghost use Rattle.std.specs.Prelude.{◌≡◌, ◌⊎◌, ◌<◌, ◌-◌, ℕ,
 ghost use Rattle.envy_base.specs.declared.fields.Job.TheVariants.{Idle, Switch, Erase};
 ghost use Rattle.envy_base.specs.declared.fields.Undo.TheVariants.{Clear};
 ghost use Rattle.envy_map.specs.Fields.{chart, undo};
-ghost use Rattle.envy_layout.specs.Power.{power_of};
-ghost use Rattle.envy_layout.specs.Same.{Same};
-ghost use Rattle.envy_layout.specs.Sound.{IsSound, IsPlaced, IsSpare};
+ghost use Rattle.envy_soundness.specs.Power.{power_of};
+ghost use Rattle.envy_soundness.specs.Same.{Same};
+ghost use Rattle.envy_soundness.specs.Sound.{IsSound, IsPlaced, IsSpare};
 ghost use Rattle.envy_reloc.specs.Settling.{Finds, KeepsOthers, Finishes, Settles};
 ghost use Rattle.envy_base.specs.Shape.{all_positions_of, positions_of};
 
 use crate::Reloc;
-use crate::switching::switch_row;
+use crate::row_switch::switch_row;
 use envy_base::{Board, Job, Off, all_positions_of, positions_of};
-use envy_layout::{begin_erase, replace_segment};
 use envy_map::{fill, job, segment_at};
+use envy_soundness::{begin_erase, replace_segment};
 
 /// The position in use of a segment, if it stands at one.
 fn find_position<B: Board>(board: &B, segment: u32) -> Result<Option<u32>, Off>

@@ -2,10 +2,10 @@ ghost use Rattle.std.specs.Prelude.{◌≡◌, ◌<◌, ◌+◌, ◌-◌, ℕ, [
 ghost use Rattle.envy_base.specs.declared.fields.Job.TheVariants.{Idle, Copy, Erase};
 ghost use Rattle.envy_map.specs.Fields.{chart, with_fields};
 ghost use Rattle.envy_map.specs.Writes.{with_job};
-ghost use Rattle.envy_layout.specs.Naming.{AreParted};
-ghost use Rattle.envy_layout.specs.Power.{power_after};
-ghost use Rattle.envy_layout.specs.Same.{Same};
-ghost use Rattle.envy_layout.specs.Sound.{IsSound, IsSpare};
+ghost use Rattle.envy_soundness.specs.Naming.{AreParted};
+ghost use Rattle.envy_soundness.specs.Power.{power_after};
+ghost use Rattle.envy_soundness.specs.Same.{Same};
+ghost use Rattle.envy_soundness.specs.Sound.{IsSound, IsSpare};
 ghost use Rattle.envy_table.specs.Agreement.{AreCurrent};
 ghost use Rattle.envy_reloc.specs.Phases.{Does, SameOnce, CountsBegun, CountsApart};
 ghost use Rattle.envy_reloc.specs.Effort.{programs_of, erases_of, Leaves};
@@ -14,13 +14,13 @@ ghost use Rattle.envy_reloc.specs.Plan.{IsPlanOf};
 ghost use Rattle.envy_reloc.specs.Rows.{NextKept};
 
 use crate::Reloc;
-use crate::copying::{Left, copy_row, next_kept};
-use crate::ending::{erase, place_spare};
-use crate::moving::{Move, move_row};
-use crate::switching::switch_segment;
+use crate::job_end::{erase, place_spare};
+use crate::row_copy::{Left, copy_row, next_kept};
+use crate::row_move::{Move, move_row};
+use crate::row_switch::switch_segment;
 use envy_base::{Board, Job, Trouble};
-use envy_layout::begin_erase;
 use envy_map::job;
+use envy_soundness::begin_erase;
 use envy_space::Space;
 use envy_table::Cache;
 
@@ -161,7 +161,7 @@ impl Reloc {
         Err(Trouble::Bad)
     }
 
-    #[tactic(auto, using(envy_layout::proofs::Sames::then_same, envy_layout::proofs::Sames::tally_still, envy_layout::proofs::Sames::tally_end))]
+    #[tactic(auto, using(envy_soundness::proofs::Sames::then_same, envy_soundness::proofs::Sames::tally_still, envy_soundness::proofs::Sames::tally_end))]
     // Copies a row. A bad program gives up the relocation.
     fn copy_left<B: Board>(
         &mut self,
@@ -198,7 +198,7 @@ impl Reloc {
         }
     }
 
-    #[tactic(auto, using(envy_layout::proofs::Sames::then_same, envy_layout::proofs::Sames::tally_still, envy_layout::proofs::Sames::tally_end))]
+    #[tactic(auto, using(envy_soundness::proofs::Sames::then_same, envy_soundness::proofs::Sames::tally_still, envy_soundness::proofs::Sames::tally_end))]
     // Moves a row. A bad program gives up the relocation.
     fn move_next<B: Board>(
         &mut self,

@@ -5,8 +5,8 @@ use Rattle.envy_base.specs.State.{State}
 use Rattle.envy_io.specs.declared.source.Failed.{Failed}
 use Rattle.envy_io.specs.Streams.{Drain}
 use Rattle.envy_map.specs.Fields.{Chart}
-use Rattle.envy_serve.specs.declared.serving.End.{End}
-use Rattle.envy_serve.specs.declared.serving.End.TheVariants.{Done as EndDone, ReadFault as EndReadFault, WriteFault as EndWriteFault, FlushFault, Refused, Dead as EndDead, TooLong as EndTooLong}
+use Rattle.envy_serve.specs.declared.server.End.{End}
+use Rattle.envy_serve.specs.declared.server.End.TheVariants.{Done as EndDone, ReadFault as EndReadFault, WriteFault as EndWriteFault, FlushFault, Refused, Dead as EndDead, TooLong as EndTooLong}
 use Rattle.envy_serve.specs.Ends.{Serves, Ends, HasServed}
 use Rattle.envy_serve.specs.Streams.{Streams}
 use Rattle.envy_serve.specs.Turns.{Turn}

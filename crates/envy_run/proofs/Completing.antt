@@ -3,20 +3,20 @@ use Rattle.std.proofs.Common.{◌≡◌, ◌⊎◌, inl, inr, ℕ, ◌<◌, ◌�
 use Rattle.std.specs.Option.{option_map}
 use Rattle.std.specs.Prelude.{IsTrue, false, Option, None, Some, Result, Ok, Err}
 use Rattle.envy_args.specs.declared.command.Command.{Command}
-use Rattle.envy_args.specs.declared.command.Command.TheVariants.{Run, Plain, Tpca, Gen, Save, Resume, Audit, Segments, Index, Mirror}
+use Rattle.envy_args.specs.declared.command.Command.TheVariants.{Run, Plain, Tpca, Gen, Save, Resume, Audit, Map, Index, Mirror}
 use Rattle.envy_args.specs.declared.command.WordsFault.{WordsFault}
 use Rattle.envy_args.specs.declared.command.WordsFault.TheVariants.{Form, Setup as Rule, Memory}
 use Rattle.envy_args.specs.Words.{Text, command_of}
-use Rattle.envy_base.specs.Array.{Array}
+use Rattle.envy_array.specs.Array.{Array}
 use Rattle.envy_base.specs.State.{State}
-use Rattle.envy_base.specs.declared.area.Area.{Area}
+use Rattle.envy_array.specs.declared.area.Area.{Area}
 use Rattle.envy_base.specs.declared.shape.Shape.{Shape}
 use Rattle.envy_gen.specs.Traces.{trace_bytes}
 use Rattle.envy_io.specs.Streams.{Drain, Feed}
 use Rattle.envy_map.specs.Fields.{Chart}
 use Rattle.envy_policy.specs.declared.setup.Setup.{Setup}
-use Rattle.envy_serve.specs.declared.serving.End.{End}
-use Rattle.envy_serve.specs.declared.serving.End.TheVariants.{Done as EndDone}
+use Rattle.envy_serve.specs.declared.server.End.{End}
+use Rattle.envy_serve.specs.declared.server.End.TheVariants.{Done as EndDone}
 use Rattle.envy_serve.specs.Ends.{most_bytes}
 use Rattle.envy_serve.specs.GoodTrace.{StaysLow, IsGoodTrace}
 use Rattle.envy_serve.specs.Grammar.{Grammar, silent}
@@ -173,8 +173,8 @@ completes (Ok (Resume policy limit mark returns most)) o io (inl resumes) = λ h
 completes (Ok (Resume policy limit mark returns most)) o io (inr without) = λ holds trace well. without-complete o io without
 completes (Ok (Audit most)) o io (inl audits) = λ holds small calm. completes-judging most IsVerdict o io audits holds small calm
 completes (Ok (Audit most)) o io (inr without) = λ holds small calm. without-complete o io without
-completes (Ok (Segments most)) o io (inl maps) = λ holds small calm. completes-judging most IsMap o io maps holds small calm
-completes (Ok (Segments most)) o io (inr without) = λ holds small calm. without-complete o io without
+completes (Ok (Map most)) o io (inl maps) = λ holds small calm. completes-judging most IsMap o io maps holds small calm
+completes (Ok (Map most)) o io (inr without) = λ holds small calm. without-complete o io without
 completes (Ok (Index setup returns)) o io (inl indexes) = λ good well. completes-index setup returns o io (done_of (index_task setup returns) o io indexes) good well
 completes (Ok (Index setup returns)) o io (inr without) = λ good well. without-complete o io without
 completes (Ok (Mirror setup returns)) o io (inl mirrors) = λ good well. completes-mirror setup returns o io (done_of (mirror_task setup returns) o io mirrors) good well
@@ -191,7 +191,7 @@ alone-mapped (Tpca setup returns start area every) f second alone = ap (option_m
 alone-mapped (Save setup returns) f second alone = ap (option_map f) alone
 alone-mapped (Resume policy limit mark returns most) f second alone = ap (option_map f) alone
 alone-mapped (Audit most) f second alone = ap (option_map f) alone
-alone-mapped (Segments most) f second alone = ap (option_map f) alone
+alone-mapped (Map most) f second alone = ap (option_map f) alone
 alone-mapped (Index setup returns) f second alone = ap (option_map f) alone
 
 -- the command is that of the words

@@ -3,19 +3,19 @@ use Rattle.std.proofs.Common.{◌≡◌, ◌⊎◌, inl, inr, ℕ, zero, suc, �
 use Rattle.std.specs.Prelude.{IfSome, Option, None, Some, Result, Ok, Err, slice_index, if◌then◌else◌}
 use Rattle.std.proofs.lemmas.Bool.{cases_lt}
 use Rattle.envy_args.specs.declared.command.Command.{Command}
-use Rattle.envy_args.specs.declared.command.Command.TheVariants.{Run, Plain, Tpca, Gen, Save, Resume, Audit, Segments, Index, Mirror}
+use Rattle.envy_args.specs.declared.command.Command.TheVariants.{Run, Plain, Tpca, Gen, Save, Resume, Audit, Map, Index, Mirror}
 use Rattle.envy_args.specs.declared.command.WordsFault.{WordsFault}
 use Rattle.envy_args.specs.declared.command.WordsFault.TheVariants.{Memory}
 use Rattle.envy_args.specs.Words.{Text, command_of}
 use Rattle.envy_base.specs.State.{State, IsMade}
-use Rattle.envy_base.specs.declared.area.Area.{Area}
+use Rattle.envy_array.specs.declared.area.Area.{Area}
 use Rattle.envy_base.specs.declared.faults.PlannedFault.{PlannedFault}
-use Rattle.envy_base.specs.declared.counts.Counts.{Counts}
+use Rattle.envy_array.specs.declared.counts.Counts.{Counts}
 use Rattle.envy_base.specs.declared.shape.Shape.{Shape}
 use Rattle.envy_io.specs.Streams.{Drain, Feed}
-use Rattle.envy_layout.specs.Sound.{IsSound}
-use Rattle.envy_layout.specs.Stands.{Stands}
-use Rattle.envy_layout.specs.Words.{durable}
+use Rattle.envy_soundness.specs.Sound.{IsSound}
+use Rattle.envy_meaning.specs.Stands.{Stands}
+use Rattle.envy_soundness.specs.Words.{durable}
 use Rattle.envy_map.specs.Fields.{Chart, chart}
 use Rattle.envy_memory.specs.Calls.{fresh}
 use Rattle.envy_memory.specs.Picture.{Picture, counts_of}
@@ -213,7 +213,7 @@ tells-unserved (Ok (Gen start count mix)) o io u = tt
 tells-unserved (Ok (Save setup returns)) o io u = tt
 tells-unserved (Ok (Resume policy limit mark returns most)) o io u = tt
 tells-unserved (Ok (Audit most)) o io u = tt
-tells-unserved (Ok (Segments most)) o io u = tt
+tells-unserved (Ok (Map most)) o io u = tt
 tells-unserved (Ok (Index setup returns)) o io u = tt
 tells-unserved (Ok (Mirror setup returns)) o io u = tt
 tells-unserved (Err fault) o io u = tt

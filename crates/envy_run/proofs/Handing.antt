@@ -3,7 +3,7 @@ use Rattle.std.proofs.Common.{◌≡◌, ◌⊎◌, inl, inr, ◌≤◌, List, r
 use Rattle.std.specs.Prelude.{None, Result, Ok, Err}
 use Rattle.envy_args.specs.Words.{Text, command_of}
 use Rattle.envy_args.specs.declared.command.Command.{Command}
-use Rattle.envy_args.specs.declared.command.Command.TheVariants.{Run, Plain, Tpca, Gen, Save, Resume, Audit, Segments, Index, Mirror}
+use Rattle.envy_args.specs.declared.command.Command.TheVariants.{Run, Plain, Tpca, Gen, Save, Resume, Audit, Map, Index, Mirror}
 use Rattle.envy_args.specs.declared.command.WordsFault.{WordsFault}
 use Rattle.envy_args.specs.declared.command.WordsFault.TheVariants.{Form, Setup as Rule, Memory}
 use Rattle.envy_base.specs.State.{State}
@@ -78,7 +78,7 @@ alone-so (Ok (Tpca setup returns start area every)) o none = none
 alone-so (Ok (Save setup returns)) o none = none
 alone-so (Ok (Resume policy limit mark returns most)) o none = none
 alone-so (Ok (Audit most)) o none = none
-alone-so (Ok (Segments most)) o none = none
+alone-so (Ok (Map most)) o none = none
 alone-so (Ok (Index setup returns)) o none = none
 alone-so (Err fault) o none = none
 

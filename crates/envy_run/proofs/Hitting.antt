@@ -3,12 +3,11 @@ use Rattle.std.proofs.Common.{◌≡◌, subst, ℕ, ◌+◌, ◌%◌, ◌≤◌
 use Rattle.std.specs.Prelude.{not, if◌then◌else◌, ◌==◌, Option, None, Some, IfSome}
 use Rattle.std.proofs.lemmas.Nat.{mod_below}
 use Rattle.envy_base.proofs.Counting.{up-least}
-use Rattle.envy_base.specs.Counting.{up}
-use Rattle.envy_base.specs.declared.counts.Counts.{Counts}
+use Rattle.envy_base.specs.Counting.{Tally, up}
+use Rattle.envy_array.specs.declared.counts.Counts.{Counts}
 use Rattle.envy_base.specs.declared.shape.Shape.{Shape}
-use Rattle.envy_flush.proofs.CountLemmas.{Tallies-trans}
-use Rattle.envy_flush.specs.Counts.{Tallies, Tally3}
-use Rattle.envy_base.specs.Counting.{Tally}
+use Rattle.envy_engine.proofs.CountLemmas.{Tallies-trans}
+use Rattle.envy_engine.specs.Counts.{Tallies, Tally3}
 use Rattle.envy_memory.specs.Picture.{Picture, counts_of}
 use Rattle.envy_serve.specs.Turns.{one_if}
 use Rattle.envy_table.specs.Entries.{Entry, Translations, entry, holds, is_hit as is_held}

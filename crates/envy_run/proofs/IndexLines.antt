@@ -1,7 +1,8 @@
 -- What the calls of the index tree say of the words of a memory.
 use Rattle.std.proofs.Common.{◌≡◌, ◌⊎◌, inl, inr, ℕ, ◌+◌, ◌-◌, ◌*◌, ◌/◌, ◌^◌, ◌<◌, ◌≤◌, Bool, false, List, [], ◌∷◌, length, refl, sym, ◌∙◌, ap, subst, arith}
 use Rattle.std.specs.Prelude.{◌&&◌, IsTrue, Option, None, Some, Ok, Err}
-use Rattle.envy_base.specs.Words.{Sheet, Works, Keeps, Rose}
+use Rattle.envy_array.specs.Words.{Sheet, Works, Keeps}
+use Rattle.envy_base.specs.Counting.{Rose}
 use Rattle.envy_btree.specs.declared.fault.LookFault.{LookFault}
 use Rattle.envy_btree.specs.declared.fault.LookFault.TheVariants.{Off as LookOff, Broken}
 use Rattle.envy_base.specs.declared.faults.PlannedFault.{PlannedFault}
@@ -17,8 +18,8 @@ use Rattle.envy_btree.specs.declared.line.IndexLine.{IndexLine}
 use Rattle.envy_btree.specs.declared.line.IndexLine.TheVariants.{Get, Insert, Remove}
 use Rattle.envy_btree.specs.declared.reply.IndexReply.{IndexReply}
 use Rattle.envy_btree.specs.declared.reply.IndexReply.TheVariants.{Full, Fault, Lost}
-use Rattle.envy_layout.specs.Words.{durable}
-use Rattle.envy_layout.proofs.WordLists.{length-durable}
+use Rattle.envy_soundness.specs.Words.{durable}
+use Rattle.envy_soundness.proofs.WordLists.{length-durable}
 use Rattle.envy_map.specs.Fields.{Chart}
 use Rattle.envy_memory.specs.Calls.{planned}
 use Rattle.envy_memory.specs.Lawful.{words_long}

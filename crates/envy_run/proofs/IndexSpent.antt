@@ -2,11 +2,11 @@
 use Rattle.std.proofs.Common.{◌≡◌, ℕ, ◌+◌, ◌*◌, ◌^◌, ◌≤◌, Bool, List, length, refl, sym, ap, subst, arith}
 use Rattle.std.proofs.Math.Nat.{mul-le-mul_left}
 use Rattle.std.specs.Prelude.{sum}
-use Rattle.envy_base.specs.Words.{Spends as SheetSpends}
+use Rattle.envy_array.specs.Words.{Spends as SheetSpends}
 use Rattle.envy_base.specs.declared.faults.PlannedFault.{PlannedFault}
 use Rattle.envy_base.specs.declared.shape.Shape.{Shape}
 use Rattle.envy_btree.specs.Answers.{insert_puts, removal_puts}
-use Rattle.envy_layout.specs.Same.{Counted, Grows, Kept}
+use Rattle.envy_soundness.specs.Same.{Counted, Grows, Kept}
 use Rattle.envy_map.specs.Fields.{Chart}
 use Rattle.envy_memory.specs.Below.{flush_programs, flush_erases}
 use Rattle.envy_memory.specs.Calls.{lit, planned}

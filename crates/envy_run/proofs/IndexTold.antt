@@ -6,7 +6,7 @@ use Rattle.envy_base.specs.declared.faults.PlannedFault.{PlannedFault}
 use Rattle.envy_base.specs.Shape.{IsShape, version_of}
 use Rattle.envy_base.specs.State.{State, IsMade}
 use Rattle.envy_base.proofs.Counting.{up-least, up-below}
-use Rattle.envy_base.proofs.Undoing.{undo_all-closed}
+use Rattle.envy_array.proofs.Undoing.{undo_all-closed}
 use Rattle.envy_base.specs.declared.shape.Shape.{Shape}
 use Rattle.envy_btree.specs.Grammar.{index_line_of}
 use Rattle.envy_btree.specs.Index.{IsIndex}
@@ -21,10 +21,10 @@ use Rattle.envy_io.specs.declared.source.Failed.{Failed}
 use Rattle.envy_io.specs.Lines.{newline}
 use Rattle.envy_io.specs.Streams.{Feed, Drain, Rises, WritesAll, with_end}
 use Rattle.envy_io.proofs.WritesLemmas.{with_end-with_end, with_end-nil}
-use Rattle.envy_layout.specs.Same.{Kept, Counted}
-use Rattle.envy_layout.specs.Sound.{IsSound}
-use Rattle.envy_layout.specs.Stands.{Stands, Holds}
-use Rattle.envy_layout.specs.Words.{durable}
+use Rattle.envy_soundness.specs.Same.{Kept, Counted}
+use Rattle.envy_soundness.specs.Sound.{IsSound}
+use Rattle.envy_meaning.specs.Stands.{Stands, Holds}
+use Rattle.envy_soundness.specs.Words.{durable}
 use Rattle.envy_map.specs.Codes.{the_magic}
 use Rattle.envy_map.specs.Fields.{Chart, chart}
 use Rattle.envy_memory.proofs.Counted.{up-low}
@@ -34,9 +34,9 @@ use Rattle.envy_memory.specs.Formats.{IsFresh}
 use Rattle.envy_memory.specs.Picture.{Picture}
 use Rattle.envy_memory.specs.Sheets.{sheet_of}
 use Rattle.envy_policy.specs.declared.setup.Setup.{Setup}
-use Rattle.envy_serve.specs.declared.service.Obeyed.{Obeyed}
-use Rattle.envy_serve.specs.declared.service.Obeyed.TheVariants.{Done, WriteFault, Dead}
-use Rattle.envy_serve.specs.declared.serving.End.{End}
+use Rattle.envy_serve.specs.declared.service.LineOutcome.{LineOutcome}
+use Rattle.envy_serve.specs.declared.service.LineOutcome.TheVariants.{Done, WriteFault, Dead}
+use Rattle.envy_serve.specs.declared.server.End.{End}
 use Rattle.envy_serve.specs.Ends.{Serves, Ends, most_bytes}
 use Rattle.envy_serve.specs.Obeys.{Obeys}
 use Rattle.envy_serve.specs.Streams.{Streams, Written, FrontWritten}
@@ -164,7 +164,7 @@ back-serving es old c new begun stays back map =
     let size = stays.size in
     record { on = back.on; shut = back.shut; room = omega arith; size = omega arith; map = subst (λ (ws : List ℕ). IsIndex ws es) (sym back.durable) map }
 
-pub index-recovers : (most : ℕ) (es : Pairs) (line : IndexLine) (reply : IndexReply) (old c : Chart) (new : Picture) (b begun : Bool) (p : Picture) (sink mid_sink then_sink : Drain) (wrote : Result Unit Failed) (obeyed : Obeyed) → p.chart ≡ c → Stays es old c → reply ≡ Lost → AnswersIndex most es line reply p b → ReplyLicence line reply old c → SpendsPuts (puts_of line) old c → WritesAll sink (index_bytes reply ++ newline ∷ []) wrote mid_sink → RecoversIndex wrote obeyed c new begun mid_sink then_sink → ObeysIndex most es line obeyed old new begun sink then_sink
+pub index-recovers : (most : ℕ) (es : Pairs) (line : IndexLine) (reply : IndexReply) (old c : Chart) (new : Picture) (b begun : Bool) (p : Picture) (sink mid_sink then_sink : Drain) (wrote : Result Unit Failed) (obeyed : LineOutcome) → p.chart ≡ c → Stays es old c → reply ≡ Lost → AnswersIndex most es line reply p b → ReplyLicence line reply old c → SpendsPuts (puts_of line) old c → WritesAll sink (index_bytes reply ++ newline ∷ []) wrote mid_sink → RecoversIndex wrote obeyed c new begun mid_sink then_sink → ObeysIndex most es line obeyed old new begun sink then_sink
 index-recovers most es line reply old c new b begun p sink mid_sink then_sink wrote obeyed same stays is a x spent writes recovers =
     lost-so (subst (λ (d : Chart). LostAt most es line d) same (subst (λ (r : IndexReply). AnswersIndex most es line r p b) is a)) (subst (λ (r : IndexReply). ReplyLicence line r old c) is x) wrote obeyed (subst (λ (r : IndexReply). WritesAll sink (index_bytes r ++ newline ∷ []) wrote mid_sink) is writes) recovers
   where
@@ -189,7 +189,7 @@ index-recovers most es line reply old c new b begun p sink mid_sink then_sink wr
       spent = puts-then (puts_of line) old c new.chart spent off.spent;
     }
 
-    lost-so : LostAt most es line c → ReplyLicence line Lost old c → (wrote : Result Unit Failed) (obeyed : Obeyed) → WritesAll sink first wrote mid_sink → RecoversIndex wrote obeyed c new begun mid_sink then_sink → ObeysIndex most es line obeyed old new begun sink then_sink
+    lost-so : LostAt most es line c → ReplyLicence line Lost old c → (wrote : Result Unit Failed) (obeyed : LineOutcome) → WritesAll sink first wrote mid_sink → RecoversIndex wrote obeyed c new begun mid_sink then_sink → ObeysIndex most es line obeyed old new begun sink then_sink
     lost-so l y (Ok done) Done (whole, faults, after) (ok, back, told) =
         (Lost ∷ Restarted ∷ [], LostAt.left l, done-both y l back, record { whole = told.whole ∙ ap (λ (w : _). with_end w (texts index_grammar (Restarted ∷ []))) whole ∙ with_end-with_end sink.written first (texts index_grammar (Restarted ∷ [])); faults = let later = told.faults in omega arith })
     lost-so l y (Err failed) Done writes_all (ok, back, told) = absurd (let never = ok in cc)
@@ -204,7 +204,7 @@ index-recovers most es line reply old c new b begun p sink mid_sink then_sink wr
     lost-so l y (Err failed) Dead (n, lt, front, faults) (off, dead, kept) =
         (dead-so y l off dead, inr (subst (λ (rs : List IndexReply). FrontWritten (texts index_grammar rs) sink then_sink) (sym (no-power l).1) (subst (λ (d : Drain). FrontWritten (texts index_grammar (Lost ∷ [])) sink d) (sym kept) (record { count = n; front = front ∙ ap (λ (t : List ℕ). with_end sink.written (take n t)) (sym (texts-one Lost)); faults = faults }))))
 
-pub index-power : (most : ℕ) (es : Pairs) (p c new : Picture) (b begun : Bool) (sink then_sink : Drain) (obeyed : Obeyed) → Serving p b es → c ≡ record p { chart = pulled p.chart } → RecoversIndex (Ok tt) obeyed c.chart new begun sink then_sink → ObeysIndex most es Power obeyed p.chart new begun sink then_sink
+pub index-power : (most : ℕ) (es : Pairs) (p c new : Picture) (b begun : Bool) (sink then_sink : Drain) (obeyed : LineOutcome) → Serving p b es → c ≡ record p { chart = pulled p.chart } → RecoversIndex (Ok tt) obeyed c.chart new begun sink then_sink → ObeysIndex most es Power obeyed p.chart new begun sink then_sink
 index-power most es p c new b begun sink then_sink obeyed s is recovers = at obeyed recovers
   where
     cut : Licence 1 [] 0 0 p.chart c.chart
@@ -230,7 +230,7 @@ index-power most es p c new b begun sink then_sink obeyed s is recovers = at obe
     done-so : IndexBack c.chart new begun → IndexLineDone most es Power (Restarted ∷ []) es p.chart new begun
     done-so back = record { does = inr (inr (inr (refl, refl, refl))); serving = back-serving es p.chart c.chart new begun stays back map; licensed = Licence-trans 1 [] 0 0 0 [] 0 0 p.chart c.chart new.chart cut back.licence; spent = puts-then 0 p.chart c.chart new.chart cut-spent back.spent }
 
-    at : (obeyed : Obeyed) → RecoversIndex (Ok tt) obeyed c.chart new begun sink then_sink → ObeysIndex most es Power obeyed p.chart new begun sink then_sink
+    at : (obeyed : LineOutcome) → RecoversIndex (Ok tt) obeyed c.chart new begun sink then_sink → ObeysIndex most es Power obeyed p.chart new begun sink then_sink
     at Done (ok, back, told) = (Restarted ∷ [], es, done-so back, told)
     at WriteFault (back, inl (err, kept)) = absurd (let never = err in cc)
     at WriteFault (back, inr (ok, part)) = (Restarted ∷ [], es, done-so back, part)
@@ -259,7 +259,7 @@ joined first p q b d turns t line replies left x = record {
   spent = puts-more (puts_in turns) (puts_of line) first p.chart q.chart (Licence.shape t.licensed) t.spent x.spent;
 }
 
-pub index-obeys : (first : Chart) (p q : Picture) (b d : Bool) (turns : List IndexTurn) (line : IndexLine) (obeyed : Obeyed) (sink then_sink : Drain) (t : IndexedSince first p b turns) → ObeysIndex (most_of p.chart.shape.pages) (IndexedSince.pairs t) line obeyed p.chart q d sink then_sink → Obeys obeyed index_grammar (IndexedSince first q d) (FellSince first q.chart) turns line sink then_sink
+pub index-obeys : (first : Chart) (p q : Picture) (b d : Bool) (turns : List IndexTurn) (line : IndexLine) (obeyed : LineOutcome) (sink then_sink : Drain) (t : IndexedSince first p b turns) → ObeysIndex (most_of p.chart.shape.pages) (IndexedSince.pairs t) line obeyed p.chart q d sink then_sink → Obeys obeyed index_grammar (IndexedSince first q d) (FellSince first q.chart) turns line sink then_sink
 index-obeys first p q b d turns line Done sink then_sink t (replies, left, done, told) = (replies, joined first p q b d turns t line replies left done, told)
 index-obeys first p q b d turns line WriteFault sink then_sink t (replies, left, done, told) = (replies, joined first p q b d turns t line replies left done, told)
 index-obeys first p q b d turns line Dead sink then_sink t (dead, told) = (

@@ -12,7 +12,7 @@ use Rattle.envy_audit.specs.declared.verdict.Verdict.{Verdict}
 use Rattle.envy_image.specs.Image.{head_of, head_size, head_with, is_extended, numbers_size, body_of, image_of}
 use Rattle.envy_image.specs.Reading.{Consumes, Ends}
 use Rattle.envy_image.specs.Installing.{Goes, Upsets, IsUpset, Installed, StopsAs, FailsInBody, body_size, count_after}
-use Rattle.envy_image.specs.declared.installing.InFault.TheVariants.{Short as InShort, Failed as InFailed, Spent as InSpent}
+use Rattle.envy_image.specs.declared.installation.InFault.TheVariants.{Short as InShort, Failed as InFailed, Spent as InSpent}
 use Rattle.envy_image.proofs.Backwards.{fit-numbers, head-whole, length-head, never-bare, same-head, some-numbers}
 use Rattle.envy_io.specs.Streams.{Feed, Drain, with_front}
 use Rattle.envy_io.specs.Taking.{Taking}

@@ -2,13 +2,13 @@
 use Rattle.std.proofs.Common.{◌≡◌, ◌⊎◌, inl, inr, ℕ, ◌<◌, ◌≤◌, false, List, [], refl, sym, ◌∙◌, ap, subst, arith}
 use Rattle.std.specs.Prelude.{IfSome, Option, None, Some, unwrap_or, IsTrue}
 use Rattle.std.specs.Option.{option_map}
-use Rattle.envy_base.specs.Array.{zeros}
+use Rattle.envy_array.specs.Array.{zeros}
 use Rattle.envy_base.specs.Shape.{IsShape}
 use Rattle.envy_base.specs.State.{State, IsMade}
 use Rattle.envy_base.specs.declared.shape.Shape.{Shape}
 use Rattle.envy_io.specs.Streams.{Feed, Drain}
 use Rattle.envy_io.specs.Taking.{Taking}
-use Rattle.envy_layout.specs.Stands.{Stands}
+use Rattle.envy_meaning.specs.Stands.{Stands}
 use Rattle.envy_map.specs.Fields.{Chart, chart}
 use Rattle.envy_memory.specs.Formats.{IsFresh, IsStarted}
 use Rattle.envy_memory.specs.Picture.{Picture}
@@ -21,7 +21,7 @@ use Rattle.envy_pair.specs.State.{begun}
 use Rattle.envy_pair.proofs.Beginning.{begins}
 use Rattle.envy_pair.proofs.Finishing.{IsUnused, AreUnused, boards_of, licences-either, mirrored, fallen, bill-either}
 use Rattle.envy_policy.specs.declared.setup.Setup.{Setup}
-use Rattle.envy_serve.specs.declared.serving.End.{End}
+use Rattle.envy_serve.specs.declared.server.End.{End}
 use Rattle.envy_serve.specs.Ends.{Serves, Ends, IsAtStart, most_bytes}
 use Rattle.envy_serve.specs.Streams.{Streams}
 use Rattle.envy_serve.proofs.Advancing.{Serves-as, served-either}

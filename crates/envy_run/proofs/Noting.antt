@@ -3,11 +3,11 @@ use Rattle.std.proofs.Common.{◌≡◌, ◌⊎◌, inl, inr, ℕ, ◌≤◌, fa
 use Rattle.std.specs.Prelude.{IsTrue, Option, None, Some, IfSome, sum}
 use Rattle.envy_base.proofs.Counting.{up-least}
 use Rattle.envy_base.specs.Counting.{up, Tally}
-use Rattle.envy_base.specs.declared.counts.Counts.{Counts}
-use Rattle.envy_flush.specs.Counts.{Counting, Tallies}
-use Rattle.envy_flush.specs.declared.parts.Parts.{Parts}
-use Rattle.envy_flush.specs.Ticks.{CountsTick}
-use Rattle.envy_layout.specs.Same.{Counted}
+use Rattle.envy_array.specs.declared.counts.Counts.{Counts}
+use Rattle.envy_engine.specs.Counts.{Counting, Tallies}
+use Rattle.envy_engine.specs.declared.parts.Parts.{Parts}
+use Rattle.envy_engine.specs.Ticks.{CountsTick}
+use Rattle.envy_soundness.specs.Same.{Counted}
 use Rattle.envy_memory.proofs.Counted.{Tallies-stay, begun-stay}
 use Rattle.envy_memory.specs.Effects.{Visits}
 use Rattle.envy_memory.specs.Picture.{Picture, counts_of}

@@ -4,13 +4,13 @@ use Rattle.std.specs.Prelude.{IsTrue, Option, Some, Result, Ok, Err, sum}
 use Rattle.std.proofs.lemmas.Bool.{cases_lt}
 use Rattle.std.proofs.Math.Seq.{take-append-add}
 use Rattle.std.proofs.lemmas.List.{take-append-le}
-use Rattle.envy_base.specs.Array.{Array, undone, restarted}
+use Rattle.envy_array.specs.Array.{Array, undone, restarted}
 use Rattle.envy_base.specs.Shape.{version_of}
 use Rattle.envy_base.proofs.Counting.{up-least, up-below}
 use Rattle.envy_base.specs.declared.faults.PlannedFault.{PlannedFault}
-use Rattle.envy_base.specs.Step.{Command, Lost as LostAs}
+use Rattle.envy_array.specs.Step.{Command, Lost as LostAs}
 use Rattle.envy_base.specs.declared.shape.Shape.{Shape}
-use Rattle.envy_flush.proofs.CountLemmas.{Tallies-trans}
+use Rattle.envy_engine.proofs.CountLemmas.{Tallies-trans}
 use Rattle.envy_io.specs.declared.source.Failed.{Failed}
 use Rattle.envy_io.specs.Lines.{newline}
 use Rattle.envy_io.specs.Streams.{Drain, Rises, WritesAll, with_end}
@@ -19,9 +19,9 @@ use Rattle.envy_map.specs.Fields.{Chart}
 use Rattle.envy_memory.proofs.Counted.{Tallies-stay, up-low}
 use Rattle.envy_memory.proofs.Stepped.{lost-fresh}
 use Rattle.envy_memory.specs.Picture.{Picture, counts_of}
-use Rattle.envy_layout.specs.Sound.{IsSound}
-use Rattle.envy_layout.specs.Stands.{Holds, Stands, IsLost as LostIn}
-use Rattle.envy_layout.specs.Words.{durable}
+use Rattle.envy_soundness.specs.Sound.{IsSound}
+use Rattle.envy_meaning.specs.Stands.{Holds, Stands, IsLost as LostIn}
+use Rattle.envy_soundness.specs.Words.{durable}
 use Rattle.envy_memory.specs.Calls.{fresh, pulled}
 use Rattle.envy_memory.specs.Rises.{RoseBy, RoseOver}
 use Rattle.envy_trace.specs.declared.line.Line.{Line}
@@ -29,8 +29,8 @@ use Rattle.envy_trace.specs.declared.line.Line.TheVariants.{Empty as EmptyLine, 
 use Rattle.envy_trace.specs.declared.reply.Reply.{Reply}
 use Rattle.envy_trace.specs.declared.reply.Reply.TheVariants.{Word, Done as Said, Started, Range, Held, Closed, Full, Busy, Fault, Lost, Restarted, Armed, Stat}
 use Rattle.envy_trace.specs.Replies.{reply_bytes}
-use Rattle.envy_serve.specs.declared.service.Obeyed.{Obeyed}
-use Rattle.envy_serve.specs.declared.service.Obeyed.TheVariants.{Done, WriteFault, Dead}
+use Rattle.envy_serve.specs.declared.service.LineOutcome.{LineOutcome}
+use Rattle.envy_serve.specs.declared.service.LineOutcome.TheVariants.{Done, WriteFault, Dead}
 use Rattle.envy_run.specs.Answers.{AnswersTo, AnswerLicence, LosesIn}
 use Rattle.envy_run.specs.Below.{WorksOf}
 use Rattle.envy_run.specs.Licence.{Licence, newest}
@@ -40,7 +40,7 @@ use Rattle.envy_serve.specs.Streams.{Written, FrontWritten}
 use Rattle.envy_serve.specs.Turns.{texts, one_if}
 use Rattle.envy_serve.specs.Answering.{losable}
 use Rattle.envy_run.specs.Turns.{Replies, trace_grammar, is_power, plan_of, is_lost, is_fault, before_restart}
-use Rattle.envy_base.specs.declared.counts.Counts.{Counts}
+use Rattle.envy_array.specs.declared.counts.Counts.{Counts}
 use Rattle.envy_run.specs.Counters.{is_empty}
 use Rattle.envy_run.specs.Hits.{accessed}
 use Rattle.envy_run.specs.Spending.{Spends, programs_of, erases_of}
@@ -222,7 +222,7 @@ Notes-power old c new is back =
     }
 
 -- power failed in a call, and was asked for
-pub call-recovers : (May : Counts → Type 0) (m : Array) (line : Line) (reply : Reply) (old c new : Picture) (sink mid_sink then_sink : Drain) (wrote : Result Unit Failed) (obeyed : Obeyed) → Stands old.chart m → c.chart.shape ≡ old.chart.shape → reply ≡ Lost → AnswersTo May m line reply c.chart → AnswerLicence line reply old.chart c.chart → WorksOf line old.chart c.chart → Notes line (reply ∷ []) old c → WritesAll sink (reply_bytes reply ++ newline ∷ []) wrote mid_sink → Recovers wrote obeyed c new mid_sink then_sink → ObeysLine May m line obeyed old new sink then_sink
+pub call-recovers : (May : Counts → Type 0) (m : Array) (line : Line) (reply : Reply) (old c new : Picture) (sink mid_sink then_sink : Drain) (wrote : Result Unit Failed) (obeyed : LineOutcome) → Stands old.chart m → c.chart.shape ≡ old.chart.shape → reply ≡ Lost → AnswersTo May m line reply c.chart → AnswerLicence line reply old.chart c.chart → WorksOf line old.chart c.chart → Notes line (reply ∷ []) old c → WritesAll sink (reply_bytes reply ++ newline ∷ []) wrote mid_sink → Recovers wrote obeyed c new mid_sink then_sink → ObeysLine May m line obeyed old new sink then_sink
 call-recovers May m line reply old c new sink mid_sink then_sink wrote obeyed stood shape is a licence works notes writes recovers =
     lost-so (subst (λ (r : Reply). AnswersTo May m line r c.chart) is a) (subst (λ (r : Reply). AnswerLicence line r old.chart c.chart) is licence) wrote obeyed (subst (λ (r : Reply). WritesAll sink (reply_bytes r ++ newline ∷ []) wrote mid_sink) is writes) recovers
   where
@@ -271,7 +271,7 @@ call-recovers May m line reply old c new sink mid_sink then_sink wrote obeyed st
           spent = spent-so still.counts;
         }
 
-    lost-so : LosesIn m line c.chart → AnswerLicence line Lost old.chart c.chart → (wrote : Result Unit Failed) (obeyed : Obeyed) → WritesAll sink first wrote mid_sink → Recovers wrote obeyed c new mid_sink then_sink → ObeysLine May m line obeyed old new sink then_sink
+    lost-so : LosesIn m line c.chart → AnswerLicence line Lost old.chart c.chart → (wrote : Result Unit Failed) (obeyed : LineOutcome) → WritesAll sink first wrote mid_sink → Recovers wrote obeyed c new mid_sink then_sink → ObeysLine May m line obeyed old new sink then_sink
     lost-so loses x (Ok done) Done (whole, faults, after) (ok, back, told) =
         let (left, done_both) = done-both x loses back in
         (Lost ∷ Restarted ∷ [], left, done_both, record { whole = told.whole ∙ ap (λ (w : _). with_end w (texts trace_grammar (Restarted ∷ []))) whole ∙ with_end-with_end sink.written first (texts trace_grammar (Restarted ∷ [])); faults = let later = told.faults in omega arith })
@@ -290,7 +290,7 @@ call-recovers May m line reply old c new sink mid_sink then_sink wrote obeyed st
         (dead-so x loses still dead, inr (subst (λ (rs : List Reply). FrontWritten (texts trace_grammar rs) sink then_sink) (sym (said-so loses).1) (subst (λ (d : Drain). FrontWritten (texts trace_grammar (Lost ∷ [])) sink d) (sym same) (record { count = n; front = front ∙ ap (λ (t : List ℕ). with_end sink.written (take n t)) (sym (texts-one Lost)); faults = faults }))))
 
 -- power was cut by the line, and was asked for
-pub power-recovers : (May : Counts → Type 0) (m : Array) (old c new : Picture) (sink then_sink : Drain) (obeyed : Obeyed) → Stands old.chart m → c ≡ record old { chart = pulled old.chart } → IsSound c.chart × (durable c.chart ≡ undone m) → Recovers (Ok tt) obeyed c new sink then_sink → ObeysLine May m PowerLine obeyed old new sink then_sink
+pub power-recovers : (May : Counts → Type 0) (m : Array) (old c new : Picture) (sink then_sink : Drain) (obeyed : LineOutcome) → Stands old.chart m → c ≡ record old { chart = pulled old.chart } → IsSound c.chart × (durable c.chart ≡ undone m) → Recovers (Ok tt) obeyed c new sink then_sink → ObeysLine May m PowerLine obeyed old new sink then_sink
 power-recovers May m old c new sink then_sink obeyed stood is (sound, words) recovers = at obeyed recovers
   where
     shadows : m.shadows ≡ c.chart.shape.shadows
@@ -319,7 +319,7 @@ power-recovers May m old c new sink then_sink obeyed stood is (sound, words) rec
       notes = Notes-power old c new is back;
     }
 
-    at : (obeyed : Obeyed) → Recovers (Ok tt) obeyed c new sink then_sink → ObeysLine May m PowerLine obeyed old new sink then_sink
+    at : (obeyed : LineOutcome) → Recovers (Ok tt) obeyed c new sink then_sink → ObeysLine May m PowerLine obeyed old new sink then_sink
     at Done (ok, back, told) = (Restarted ∷ [], restarted m, done-so_power back, told)
     at WriteFault (back, inl (err, same)) = absurd (let never = err in cc)
     at WriteFault (back, inr (ok, part)) = (Restarted ∷ [], restarted m, done-so_power back, part)

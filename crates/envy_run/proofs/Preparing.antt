@@ -7,7 +7,7 @@ use Rattle.envy_base.specs.Counting.{up}
 use Rattle.envy_base.specs.Shape.{IsShape}
 use Rattle.envy_base.specs.State.{IsMade, State, lit}
 use Rattle.envy_base.specs.declared.shape.Shape.{Shape}
-use Rattle.envy_layout.specs.Same.{Counted, Grows}
+use Rattle.envy_soundness.specs.Same.{Counted, Grows}
 use Rattle.envy_map.specs.Fields.{Chart, chart}
 use Rattle.envy_memory.specs.Formats.{CountsFormat, ErasesEach, Makes, Refuses}
 use Rattle.envy_memory.specs.Picture.{Picture}

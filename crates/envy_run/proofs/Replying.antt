@@ -1,13 +1,13 @@
 -- The reply of a line, from what the call of the memory answered.
 use Rattle.std.proofs.Common.{◌≡◌, ◌⊎◌, inl, inr, ℕ, ◌+◌, ◌-◌, ◌^◌, ◌<◌, ◌≤◌, false, [], ◌∷◌, refl, sym, ap, subst, arith}
 use Rattle.std.specs.Prelude.{◌↔◌, IsTrue, Result, Ok}
-use Rattle.envy_base.specs.Array.{Array}
+use Rattle.envy_array.specs.Array.{Array}
 use Rattle.envy_base.specs.declared.faults.PlannedFault.{PlannedFault}
-use Rattle.envy_base.specs.Step.{Command, Answer}
+use Rattle.envy_array.specs.Step.{Command, Answer}
 use Rattle.envy_map.specs.Fields.{Chart}
-use Rattle.envy_layout.specs.Same.{Counted}
-use Rattle.envy_layout.specs.Stands.{Fails, Stands, Steps}
-use Rattle.envy_base.specs.declared.counts.Counts.{Counts}
+use Rattle.envy_soundness.specs.Same.{Counted}
+use Rattle.envy_meaning.specs.Stands.{Fails, Stands, Steps}
+use Rattle.envy_array.specs.declared.counts.Counts.{Counts}
 use Rattle.envy_memory.proofs.Counted.{up-low}
 use Rattle.envy_memory.specs.Calls.{HasFailed, IsCut, Works, planned}
 use Rattle.envy_memory.specs.Effects.{TicksOnce}
@@ -17,7 +17,7 @@ use Rattle.envy_trace.specs.declared.reply.Reply.{Reply}
 use Rattle.envy_trace.specs.declared.reply.Reply.TheVariants.{Word, Done, Started, Range, Held, Closed, Full, Busy, Fault, Lost, Restarted, Armed, Stat as StatLine}
 use Rattle.envy_run.specs.Answers.{Answered, AnswersTo}
 use Rattle.envy_run.specs.Licence.{Licence}
-use Rattle.envy_run.specs.declared.answers.Beside.{Beside}
+use Rattle.envy_run.specs.declared.answers.BoardRequest.{BoardRequest}
 use Rattle.envy_serve.specs.Answering.{said}
 use Rattle.envy_run.specs.Turns.{Replies, Says, Faults, TellsCounts}
 
@@ -130,7 +130,7 @@ answers-may May m line Restarted c (n, r, stands) = (n, replies-may May m line R
 answers-may May m line Armed c (n, r, stands) = (n, replies-may May m line Armed n r, stands)
 answers-may May m line (StatLine counts) c (n, r, stands) = (n, replies-may May m line (StatLine counts) n r, stands)
 
-abbrev answered : Reply → Result Reply Beside
+abbrev answered : Reply → Result Reply BoardRequest
 answered reply = Ok reply
 
 -- the answer says `lost` where the reply does

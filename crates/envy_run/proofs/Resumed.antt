@@ -8,7 +8,7 @@ use Rattle.envy_audit.specs.Judging.{Judges}
 use Rattle.envy_audit.specs.declared.verdict.Verdict.{Verdict}
 use Rattle.envy_audit.specs.declared.verdict.Verdict.TheVariants.{Sound, Unformatted, Broken}
 use Rattle.envy_audit.proofs.Sounding.{sound-points}
-use Rattle.envy_base.specs.Array.{Array}
+use Rattle.envy_array.specs.Array.{Array}
 use Rattle.envy_base.specs.Shape.{IsVersionOf, checked as shape_checked}
 use Rattle.envy_base.specs.State.{State, IsBoard}
 use Rattle.envy_base.specs.declared.shape.Shape.{Shape}
@@ -20,13 +20,13 @@ use Rattle.envy_io.specs.Streams.{Feed, Drain, with_front}
 use Rattle.envy_io.specs.Taking.{Taking}
 use Rattle.envy_map.specs.Codes.{the_magic}
 use Rattle.envy_map.specs.Fields.{Chart, chart, map_fields}
-use Rattle.envy_layout.specs.Sound.{Sound as SoundMap}
+use Rattle.envy_soundness.specs.Sound.{Sound as SoundMap}
 use Rattle.envy_memory.specs.Formats.{IsStarted}
 use Rattle.envy_memory.specs.Picture.{Picture}
 use Rattle.envy_policy.specs.Setup.{checked}
 use Rattle.envy_policy.specs.declared.setup.Setup.{Setup}
 use Rattle.envy_policy.specs.declared.setup.SetupFault.{SetupFault}
-use Rattle.envy_serve.specs.declared.serving.End.{End}
+use Rattle.envy_serve.specs.declared.server.End.{End}
 use Rattle.envy_serve.specs.Ends.{Serves, Ends, most_bytes}
 use Rattle.envy_serve.specs.GoodTrace.{IsGoodTrace}
 use Rattle.envy_serve.specs.Streams.{Streams}

@@ -1,7 +1,7 @@
 -- The flash work of lines, from that of the calls that they name.
 use Rattle.std.proofs.Common.{◌≡◌, inl, inr, ℕ, ◌+◌, ◌≤◌, refl, sym, subst, arith}
 use Rattle.std.specs.Prelude.{sum}
-use Rattle.envy_layout.specs.Same.{Counted, Grows}
+use Rattle.envy_soundness.specs.Same.{Counted, Grows}
 use Rattle.envy_map.specs.Fields.{Chart}
 use Rattle.envy_memory.specs.Below.{flush_programs, flush_erases}
 use Rattle.envy_memory.specs.Calls.{Works}

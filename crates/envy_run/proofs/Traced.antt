@@ -1,8 +1,8 @@
 -- What a memory did in a trace, from what it does in one line, and what its board's counts say then.
 use Rattle.std.proofs.Common.{◌≡◌, ◌⊎◌, inl, inr, ℕ, zero, suc, ◌+◌, ◌*◌, ◌-◌, ◌^◌, ◌<◌, ◌≤◌, Bool, List, [], ◌∷◌, length, refl, sym, ◌∙◌, ap, subst, arith}
 use Rattle.std.specs.Prelude.{IfSome, Option, None, Some, slice_index, sum}
-use Rattle.envy_base.specs.Array.{Array, zeros}
-use Rattle.envy_base.specs.declared.counts.Counts.{Counts}
+use Rattle.envy_array.specs.Array.{Array, zeros}
+use Rattle.envy_array.specs.declared.counts.Counts.{Counts}
 use Rattle.envy_base.specs.declared.shape.Shape.{Shape}
 use Rattle.envy_base.specs.State.{State, IsBoard, IsMade}
 use Rattle.std.proofs.Math.Nat.{mul-le-mul_left}
@@ -12,8 +12,8 @@ use Rattle.std.proofs.lemmas.List.Sums.{sum_by-cons}
 use Rattle.envy_io.specs.Streams.{Feed, Drain}
 use Rattle.envy_map.specs.Fields.{Chart, chart}
 use Rattle.envy_base.specs.Counting.{up, Tally}
-use Rattle.envy_flush.specs.Counts.{Tallies, Tally3}
-use Rattle.envy_layout.specs.Stands.{Stands}
+use Rattle.envy_engine.specs.Counts.{Tallies, Tally3}
+use Rattle.envy_meaning.specs.Stands.{Stands}
 use Rattle.envy_memory.proofs.Counted.{Tallies-stay, below-top}
 use Rattle.envy_memory.specs.Formats.{IsFresh, IsStarted, no_counts}
 use Rattle.envy_memory.specs.Picture.{Picture, counts_of}
@@ -25,9 +25,9 @@ use Rattle.envy_policy.specs.declared.setup.Setup.{Setup}
 use Rattle.envy_trace.specs.declared.line.Line.{Line}
 use Rattle.envy_trace.specs.declared.line.Line.TheVariants.{Empty, Load, Look, Store, Begin, Put, Commit, Abort, Tick, Power, Cut, Bad, Stat}
 use Rattle.envy_trace.specs.declared.reply.Reply.{Reply}
-use Rattle.envy_serve.specs.declared.service.Obeyed.{Obeyed}
-use Rattle.envy_serve.specs.declared.service.Obeyed.TheVariants.{Done, WriteFault, Dead}
-use Rattle.envy_serve.specs.declared.serving.End.{End}
+use Rattle.envy_serve.specs.declared.service.LineOutcome.{LineOutcome}
+use Rattle.envy_serve.specs.declared.service.LineOutcome.TheVariants.{Done, WriteFault, Dead}
+use Rattle.envy_serve.specs.declared.server.End.{End}
 use Rattle.envy_serve.specs.Ends.{Serves, Ends, most_bytes}
 use Rattle.envy_serve.specs.Obeys.{Obeys}
 use Rattle.envy_serve.specs.Streams.{Streams}
@@ -72,7 +72,7 @@ traced-done start old new turns t line replies left d = record {
 }
 
 -- a line that was done joins the turns
-pub traced-obeys : (start : Start) (old new : Picture) (turns : List TraceTurn) (line : Line) (obeyed : Obeyed) (sink then_sink : Drain) (t : TracedSince start old turns) → ObeysLine (MayTell old.chart.shape.entries turns) (HasDone.array t.done) line obeyed old new sink then_sink → Obeys obeyed trace_grammar (TracedSince start new) (DiedSince start new) turns line sink then_sink
+pub traced-obeys : (start : Start) (old new : Picture) (turns : List TraceTurn) (line : Line) (obeyed : LineOutcome) (sink then_sink : Drain) (t : TracedSince start old turns) → ObeysLine (MayTell old.chart.shape.entries turns) (HasDone.array t.done) line obeyed old new sink then_sink → Obeys obeyed trace_grammar (TracedSince start new) (DiedSince start new) turns line sink then_sink
 traced-obeys start old new turns line Done sink then_sink t (replies, left, done, told) = (replies, traced-done start old new turns t line replies left done, told)
 traced-obeys start old new turns line WriteFault sink then_sink t (replies, left, done, told) = (replies, traced-done start old new turns t line replies left done, told)
 traced-obeys start old new turns line Dead sink then_sink t (dead, told) = (

@@ -1,19 +1,19 @@
 -- What answering a line does, power being on at entry.
 use Rattle.std.specs.Prelude.{◌≡◌, Some}
-use Rattle.envy_base.specs.Array.{Array}
+use Rattle.envy_array.specs.Array.{Array}
 use Rattle.envy_base.specs.declared.faults.PlannedFault.{PlannedFault}
 use Rattle.envy_base.specs.declared.faults.PlannedFault.TheVariants.{Cut as PlanCut, Bad as PlanBad}
-use Rattle.envy_base.specs.declared.counts.Counts.{Counts}
-use Rattle.envy_base.specs.Step.{Command}
+use Rattle.envy_array.specs.declared.counts.Counts.{Counts}
+use Rattle.envy_array.specs.Step.{Command}
 use Rattle.envy_map.specs.Fields.{Chart}
-use Rattle.envy_layout.specs.Stands.{Stands, IsLost as LostIn}
+use Rattle.envy_meaning.specs.Stands.{Stands, IsLost as LostIn}
 use Rattle.envy_trace.specs.declared.line.Line.{Line}
 use Rattle.envy_trace.specs.declared.line.Line.TheVariants.{Empty, Power, Cut, Bad}
 use Rattle.envy_trace.specs.declared.reply.Reply.{Reply}
 use Rattle.envy_trace.specs.declared.reply.Reply.TheVariants.{Lost}
 use Rattle.envy_run.specs.Licence.{Licence}
-use Rattle.envy_run.specs.declared.answers.Beside.{Beside}
-use Rattle.envy_run.specs.declared.answers.Beside.TheVariants.{Nothing, Power as OfPower, Plan as OfPlan}
+use Rattle.envy_run.specs.declared.answers.BoardRequest.{BoardRequest}
+use Rattle.envy_run.specs.declared.answers.BoardRequest.TheVariants.{Nothing, Power as OfPower, PlannedFault as OfPlan}
 use Rattle.envy_serve.specs.Answering.{losable}
 use Rattle.envy_run.specs.Turns.{Replies, plan_of, is_fault, is_lost}
 use Rattle.envy_serve.specs.Turns.{one_if}
@@ -24,7 +24,7 @@ line_of_plan (PlanCut k g) = Cut k g
 line_of_plan (PlanBad k g) = Bad k g
 
 -- the line that asks for this, which is no call of a memory over any board
-abbrev pub line_beside : Beside → Line
+abbrev pub line_beside : BoardRequest → Line
 line_beside Nothing = Empty
 line_beside OfPower = Power
 line_beside (OfPlan plan) = line_of_plan plan

@@ -1,8 +1,8 @@
 -- What attaching a memory to the board of an image, until it is attached, does.
 use Rattle.std.specs.Prelude.{◌≡◌, ◌≤◌, false, IsTrue, sum}
-use Rattle.envy_layout.specs.Sound.{IsSound}
-use Rattle.envy_layout.specs.Stands.{Stands}
-use Rattle.envy_layout.specs.Words.{durable}
+use Rattle.envy_soundness.specs.Sound.{IsSound}
+use Rattle.envy_meaning.specs.Stands.{Stands}
+use Rattle.envy_soundness.specs.Words.{durable}
 use Rattle.envy_map.specs.Fields.{Chart, IsFormatted}
 use Rattle.envy_memory.specs.Calls.{fresh}
 use Rattle.envy_memory.specs.Formats.{IsStarted}

@@ -11,7 +11,7 @@ use Rattle.envy_image.specs.Image.{image_of}
 use Rattle.envy_io.specs.Lines.{newline}
 use Rattle.envy_io.specs.Streams.{with_front}
 use Rattle.envy_map.specs.Fields.{Chart, chart}
-use Rattle.envy_segments.specs.Segments.{TellsSegments}
+use Rattle.envy_image.specs.Segments.{TellsSegments}
 use Rattle.envy_serve.specs.Streams.{Streams}
 use Rattle.envy_run.specs.Loading.{IsInstalled, IsTooLarge, IsUnharmed, IsWithin, RefusesImage}
 use Rattle.envy_run.specs.Meaning.{Meaning}

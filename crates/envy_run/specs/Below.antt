@@ -2,7 +2,7 @@
 use Rattle.std.specs.Prelude.{◌≡◌, ⊤, Ok, Err}
 use Rattle.envy_base.specs.declared.board.Trouble.TheVariants.{Bad as TroubleBad}
 use Rattle.envy_base.specs.declared.faults.PlannedFault.TheVariants.{Cut as PlanCut, Bad as PlanBad}
-use Rattle.envy_flush.specs.declared.did.Did.{Did}
+use Rattle.envy_engine.specs.declared.did.Did.{Did}
 use Rattle.envy_map.specs.Fields.{Chart}
 use Rattle.envy_memory.specs.Below.{StoresBelow, PutsBelow, TicksBelow, flush_programs, flush_erases}
 use Rattle.envy_memory.specs.Calls.{Works, planned}

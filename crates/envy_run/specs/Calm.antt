@@ -1,8 +1,8 @@
 -- What the plain machine answers: it has no power that fails, no flash operations, and no work to count.
 use Rattle.std.specs.Prelude.{◌≡◌, ⊤, List, [], ◌∷◌, Option, None, Some, Result, Ok, Err}
 use Rattle.std.specs.List.{AllByRecursion}
-use Rattle.envy_base.specs.Array.{Array}
-use Rattle.envy_base.specs.declared.counts.Counts.{Counts}
+use Rattle.envy_array.specs.Array.{Array}
+use Rattle.envy_array.specs.declared.counts.Counts.{Counts}
 use Rattle.envy_io.specs.declared.source.Failed.{Failed}
 use Rattle.envy_io.specs.Streams.{Drain}
 use Rattle.envy_memory.specs.Formats.{no_counts}

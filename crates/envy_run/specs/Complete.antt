@@ -1,7 +1,7 @@
 -- A command for which all goes well is done to its end, or memory runs out.
 use Rattle.std.specs.Prelude.{◌≡◌, ◌⊎◌, ℕ, ◌*◌, ◌<◌, ◌≤◌, IsTrue, ⊤, List, ◌++◌, length, Some, Result, Ok}
 use Rattle.envy_args.specs.declared.command.Command.{Command}
-use Rattle.envy_args.specs.declared.command.Command.TheVariants.{Run, Plain, Tpca, Gen, Save, Resume, Audit, Segments, Index, Mirror}
+use Rattle.envy_args.specs.declared.command.Command.TheVariants.{Run, Plain, Tpca, Gen, Save, Resume, Audit, Map, Index, Mirror}
 use Rattle.envy_args.specs.declared.command.WordsFault.{WordsFault}
 use Rattle.envy_audit.specs.Judging.{Judges}
 use Rattle.envy_audit.specs.declared.verdict.Verdict.TheVariants.{Sound}
@@ -68,6 +68,6 @@ Completes (Ok (Tpca setup returns start area every)) o io = StaysLow io.to.fault
 Completes (Ok (Save setup returns)) o io = IsGoodTrace trace_grammar 0 io → IsWell o → IsComplete o
 Completes (Ok (Resume policy limit mark returns most)) o io = (holds : HoldsImage io) → HoldsTrace most (setup_found policy limit mark) io holds → IsWellInstalled o → IsComplete o
 Completes (Ok (Audit most)) o io = (holds : HoldsImage io) → IsSmall most holds → NeverFailed o → IsComplete o
-Completes (Ok (Segments most)) o io = (holds : HoldsImage io) → IsSmall most holds → NeverFailed o → IsComplete o
+Completes (Ok (Map most)) o io = (holds : HoldsImage io) → IsSmall most holds → NeverFailed o → IsComplete o
 Completes (Ok (Mirror setup returns)) o io = IsGoodTrace mirror_grammar 0 io → AreWell o → IsComplete o ⊎ HasDiedOut o
 Completes command o io = ⊤

@@ -1,11 +1,11 @@
 -- What the lines of a trace lead to, and when a board is left so.
 use Rattle.std.specs.Prelude.{◌≡◌, ℕ, false, List, [], ◌∷◌, Some}
 use Rattle.envy_base.specs.Shape.{version_of}
-use Rattle.envy_base.specs.Array.{Array}
+use Rattle.envy_array.specs.Array.{Array}
 use Rattle.envy_map.specs.Codes.{the_magic}
 use Rattle.envy_map.specs.Fields.{Chart}
-use Rattle.envy_layout.specs.Sound.{IsSound}
-use Rattle.envy_layout.specs.Words.{durable}
+use Rattle.envy_soundness.specs.Sound.{IsSound}
+use Rattle.envy_soundness.specs.Words.{durable}
 use Rattle.envy_serve.specs.Turns.{Leads}
 use Rattle.envy_run.specs.Hits.{MayTell}
 use Rattle.envy_run.specs.Outcome.{Outcome}

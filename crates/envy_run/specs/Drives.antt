@@ -5,15 +5,15 @@ use Rattle.envy_args.specs.declared.command.Command.{Command}
 use Rattle.envy_args.specs.declared.command.Command.TheVariants.{Tpca}
 use Rattle.envy_args.specs.declared.command.WordsFault.{WordsFault}
 use Rattle.envy_base.specs.State.{State}
-use Rattle.envy_base.specs.declared.area.Area.{Area}
+use Rattle.envy_array.specs.declared.area.Area.{Area}
 use Rattle.envy_io.specs.Lines.{newline}
-use Rattle.envy_layout.specs.Sound.{IsSound}
-use Rattle.envy_layout.specs.Stands.{Stands}
-use Rattle.envy_layout.specs.Words.{durable}
+use Rattle.envy_soundness.specs.Sound.{IsSound}
+use Rattle.envy_meaning.specs.Stands.{Stands}
+use Rattle.envy_soundness.specs.Words.{durable}
 use Rattle.envy_map.specs.Fields.{Chart}
 use Rattle.envy_memory.specs.Calls.{fresh}
 use Rattle.envy_policy.specs.declared.setup.Setup.{Setup}
-use Rattle.envy_report.specs.Stat.{stat_bytes}
+use Rattle.envy_trace.specs.Stat.{stat_bytes}
 use Rattle.envy_serve.specs.Streams.{Streams}
 use Rattle.envy_tpca.specs.declared.sums.Sums.{Sums}
 use Rattle.envy_tpca.specs.Driving.{AddsUp, PlansCuts, accesses_of, last_cut, plans_in}

@@ -2,9 +2,9 @@
 use Rattle.std.specs.Prelude.{◌≡◌, ◌≢◌, ℕ, List, [], ◌∷◌, Option, Some, IfSome, Ok}
 use Rattle.std.specs.List.{AllByRecursion}
 use Rattle.envy_args.specs.declared.command.Command.TheVariants.{Run as RunWords, Plain as PlainWords}
-use Rattle.envy_base.specs.Array.{Array, restarted}
-use Rattle.envy_base.specs.Step.{Command, Answer, Step}
-use Rattle.envy_base.specs.Step.{Load as DoLoad, Look as DoLook, Store as DoStore, Begin as DoBegin, Put as DoPut, Commit as DoCommit, Abort as DoAbort, Tick as DoTick}
+use Rattle.envy_array.specs.Array.{Array, restarted}
+use Rattle.envy_array.specs.Step.{Command, Answer, Step}
+use Rattle.envy_array.specs.Step.{Load as DoLoad, Look as DoLook, Store as DoStore, Begin as DoBegin, Put as DoPut, Commit as DoCommit, Abort as DoAbort, Tick as DoTick}
 use Rattle.envy_io.specs.Lines.{lines_of}
 use Rattle.envy_io.specs.Streams.{with_end}
 use Rattle.envy_map.specs.Fields.{Chart}

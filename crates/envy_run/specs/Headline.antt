@@ -3,18 +3,18 @@ use Rattle.std.specs.Prelude.{◌≡◌, ◌⊎◌, ℕ, ◌+◌, ◌≤◌, ⊤
 use Rattle.std.specs.String.{string_bytes}
 use Rattle.std.specs.declared.string.String.{String}
 use Rattle.envy_args.specs.declared.command.Command.{Command}
-use Rattle.envy_args.specs.declared.command.Command.TheVariants.{Run, Plain, Tpca, Gen, Save, Resume, Audit, Segments, Index, Mirror}
+use Rattle.envy_args.specs.declared.command.Command.TheVariants.{Run, Plain, Tpca, Gen, Save, Resume, Audit, Map, Index, Mirror}
 use Rattle.envy_args.specs.declared.command.WordsFault.{WordsFault}
 use Rattle.envy_args.specs.declared.command.WordsFault.TheVariants.{Form, Setup as Rule, Memory}
 use Rattle.envy_args.specs.Words.{command_of}
-use Rattle.envy_base.specs.Array.{Array, zeros}
+use Rattle.envy_array.specs.Array.{Array, zeros}
 use Rattle.envy_base.specs.State.{State}
 use Rattle.envy_btree.specs.declared.line.IndexLine.{IndexLine}
 use Rattle.envy_btree.specs.declared.reply.IndexReply.{IndexReply}
 use Rattle.envy_gen.specs.Traces.{trace_bytes}
 use Rattle.envy_gen.specs.declared.mix.Mix.{Mix}
 use Rattle.envy_image.specs.Image.{image_of}
-use Rattle.envy_layout.specs.Stands.{Stands}
+use Rattle.envy_meaning.specs.Stands.{Stands}
 use Rattle.envy_map.specs.Fields.{Chart}
 use Rattle.envy_policy.specs.declared.setup.Setup.{Setup}
 use Rattle.envy_trace.specs.declared.line.Line.{Line}
@@ -147,7 +147,7 @@ meaning_of (Ok (Tpca setup returns start area every)) = driving setup returns st
 meaning_of (Ok (Save setup returns)) = serving (save_task setup returns)
 meaning_of (Ok (Resume policy limit mark returns most)) = resuming most (setup_found policy limit mark) returns
 meaning_of (Ok (Audit most)) = judging most IsVerdict
-meaning_of (Ok (Segments most)) = judging most IsMap
+meaning_of (Ok (Map most)) = judging most IsMap
 meaning_of (Ok (Index setup returns)) = serving (index_task setup returns)
 meaning_of (Ok (Mirror setup returns)) = serving (mirror_task setup returns)
 meaning_of (Err Form) = boardless (Refuses 0)

@@ -1,6 +1,6 @@
 -- What a line of counters says: the hits and the misses are told by the earlier turns alone.
 use Rattle.std.specs.Prelude.{◌≡◌, ℕ, ◌+◌, ◌/◌, ◌%◌, ◌==◌, Bool, true, false, not, if◌then◌else◌, List, [], ◌∷◌, Option, None, Some, IfSome}
-use Rattle.envy_base.specs.declared.counts.Counts.{Counts}
+use Rattle.envy_array.specs.declared.counts.Counts.{Counts}
 use Rattle.envy_trace.specs.declared.line.Line.{Line}
 use Rattle.envy_trace.specs.declared.line.Line.TheVariants.{Load, Store, Put}
 use Rattle.envy_trace.specs.declared.reply.Reply.{Reply}

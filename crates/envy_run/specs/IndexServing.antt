@@ -9,12 +9,12 @@ use Rattle.envy_btree.specs.Index.{IsIndex}
 use Rattle.envy_trace.specs.declared.fault.LineFault.TheVariants.{Long}
 use Rattle.envy_io.specs.declared.source.Failed.{Failed}
 use Rattle.envy_io.specs.Streams.{Drain}
-use Rattle.envy_layout.specs.Words.{durable}
+use Rattle.envy_soundness.specs.Words.{durable}
 use Rattle.envy_map.specs.Fields.{Chart}
 use Rattle.envy_memory.specs.Picture.{Picture}
 use Rattle.envy_memory.specs.Sheets.{sheet_of}
-use Rattle.envy_serve.specs.declared.service.Obeyed.{Obeyed}
-use Rattle.envy_serve.specs.declared.service.Obeyed.TheVariants.{Done, WriteFault, Dead}
+use Rattle.envy_serve.specs.declared.service.LineOutcome.{LineOutcome}
+use Rattle.envy_serve.specs.declared.service.LineOutcome.TheVariants.{Done, WriteFault, Dead}
 use Rattle.envy_serve.specs.Streams.{Written, FrontWritten}
 use Rattle.envy_serve.specs.Turns.{count_lines, count_replies, count_of, one_if, texts}
 use Rattle.envy_run.specs.IndexSpending.{SpendsPuts, puts_of, puts_in}
@@ -72,7 +72,7 @@ RestartsIndex false old new begun = IndexOff old new.chart × (new.chart.lives �
 
 -- After a failure of power, whose own reply was written or not: power is asked for, and its return
 -- is told. Nothing more is written after a write that failed.
-abbrev pub RecoversIndex : Result Unit Failed → Obeyed → Chart → Picture → Bool → Drain → Drain → Type 0
+abbrev pub RecoversIndex : Result Unit Failed → LineOutcome → Chart → Picture → Bool → Drain → Drain → Type 0
 RecoversIndex wrote Done old new begun sink then_sink = IsOk wrote × IndexBack old new begun × Written (texts index_grammar (Restarted ∷ [])) sink then_sink
 RecoversIndex wrote WriteFault old new begun sink then_sink = IndexBack old new begun × ((IsErr wrote × (then_sink ≡ sink)) ⊎ (IsOk wrote × FrontWritten (texts index_grammar (Restarted ∷ [])) sink then_sink))
 RecoversIndex wrote Dead old new begun sink then_sink = IndexOff old new.chart × (new.chart.lives ≡ 0) × (then_sink ≡ sink)
@@ -92,7 +92,7 @@ pub record IndexLineDead (most : ℕ) (es : Pairs) (line : IndexLine) (old new :
   pub licensed : LineLicence line (before_restart line) old new
   pub spent : SpendsPuts (puts_of line) old new
 
-abbrev pub ObeysIndex : ℕ → Pairs → IndexLine → Obeyed → Chart → Picture → Bool → Drain → Drain → Type 0
+abbrev pub ObeysIndex : ℕ → Pairs → IndexLine → LineOutcome → Chart → Picture → Bool → Drain → Drain → Type 0
 ObeysIndex most es line Done old new begun sink then_sink = (replies : List IndexReply) × (left : Pairs) × IndexLineDone most es line replies left old new begun × Written (texts index_grammar replies) sink then_sink
 ObeysIndex most es line WriteFault old new begun sink then_sink = (replies : List IndexReply) × (left : Pairs) × IndexLineDone most es line replies left old new begun × FrontWritten (texts index_grammar replies) sink then_sink
 ObeysIndex most es line Dead old new begun sink then_sink = IndexLineDead most es line old new.chart × (Written (texts index_grammar (before_restart line)) sink then_sink ⊎ FrontWritten (texts index_grammar (before_restart line)) sink then_sink)

@@ -1,6 +1,6 @@
 -- The word `mirror`: a trace over a pair of boards.
 use Rattle.std.specs.Prelude.{◌≡◌, ◌⊎◌, ℕ, ◌<◌, false, IsTrue, List, [], None, Some, IfSome}
-use Rattle.envy_base.specs.Array.{zeros}
+use Rattle.envy_array.specs.Array.{zeros}
 use Rattle.envy_map.specs.Fields.{Chart}
 use Rattle.envy_pair.specs.Ending.{Boards, HasMirrored, HasFallen, PairLicences}
 use Rattle.envy_pair.specs.MirrorRun.{MirrorTurn, mirror_grammar}

@@ -1,25 +1,25 @@
 -- What doing one line does to the board and to what is written, from a board that stood for the array m.
 use Rattle.std.specs.Prelude.{◌≡◌, ◌⊎◌, ◌↔◌, false, List, [], ◌∷◌}
 use Rattle.envy_base.specs.Shape.{version_of}
-use Rattle.envy_base.specs.Array.{Array}
+use Rattle.envy_array.specs.Array.{Array}
 use Rattle.envy_map.specs.Codes.{the_magic}
 use Rattle.envy_map.specs.Fields.{Chart}
 use Rattle.envy_io.specs.Streams.{Drain}
-use Rattle.envy_layout.specs.Sound.{IsSound}
-use Rattle.envy_layout.specs.Stands.{Stands}
-use Rattle.envy_layout.specs.Words.{durable}
+use Rattle.envy_soundness.specs.Sound.{IsSound}
+use Rattle.envy_meaning.specs.Stands.{Stands}
+use Rattle.envy_soundness.specs.Words.{durable}
 use Rattle.envy_trace.specs.declared.line.Line.{Line}
 use Rattle.envy_trace.specs.declared.reply.Reply.{Reply}
 use Rattle.envy_trace.specs.declared.reply.Reply.TheVariants.{Lost}
-use Rattle.envy_serve.specs.declared.service.Obeyed.{Obeyed}
-use Rattle.envy_serve.specs.declared.service.Obeyed.TheVariants.{Done, WriteFault, Dead}
+use Rattle.envy_serve.specs.declared.service.LineOutcome.{LineOutcome}
+use Rattle.envy_serve.specs.declared.service.LineOutcome.TheVariants.{Done, WriteFault, Dead}
 use Rattle.envy_memory.specs.Picture.{Picture}
 use Rattle.envy_run.specs.Answers.{AnswerLicence, AnswersTo}
 use Rattle.envy_run.specs.Below.{WorksOf}
 use Rattle.envy_run.specs.Licence.{Licence}
 use Rattle.envy_run.specs.Spending.{Spends, programs_of, erases_of}
 use Rattle.envy_run.specs.Tells.{Notes}
-use Rattle.envy_base.specs.declared.counts.Counts.{Counts}
+use Rattle.envy_array.specs.declared.counts.Counts.{Counts}
 use Rattle.envy_run.specs.Turns.{Does, FailsIn, before_restart, trace_grammar, is_power, plan_of, is_lost, is_fault}
 use Rattle.envy_serve.specs.Streams.{Written, FrontWritten}
 use Rattle.envy_serve.specs.Turns.{texts, one_if, count_of}
@@ -55,7 +55,7 @@ pub record LineDead (m : Array) (line : Line) (old new : Chart) : Type 0 where
   pub licensed : Licensed line (before_restart line) old new
   pub spent : Spends (programs_of old.shape.rows line) (erases_of line) old new
 
-abbrev pub ObeysLine : (Counts → Type 0) → Array → Line → Obeyed → Picture → Picture → Drain → Drain → Type 0
+abbrev pub ObeysLine : (Counts → Type 0) → Array → Line → LineOutcome → Picture → Picture → Drain → Drain → Type 0
 ObeysLine May m line Done old new sink then_sink = (replies : List Reply) × (left : Array) × LineDone May m line replies left old new × Written (texts trace_grammar replies) sink then_sink
 ObeysLine May m line WriteFault old new sink then_sink = (replies : List Reply) × (left : Array) × LineDone May m line replies left old new × FrontWritten (texts trace_grammar replies) sink then_sink
 ObeysLine May m line Dead old new sink then_sink = LineDead m line old.chart new.chart × (Written (texts trace_grammar (before_restart line)) sink then_sink ⊎ FrontWritten (texts trace_grammar (before_restart line)) sink then_sink)

@@ -2,15 +2,15 @@
 use Rattle.std.specs.Prelude.{◌≡◌, ◌⊎◌, ℕ, Bool, true, false, [], ◌∷◌, None, Result, IsOk, IsErr}
 use Rattle.envy_io.specs.declared.source.Failed.{Failed}
 use Rattle.envy_io.specs.Streams.{Drain}
-use Rattle.envy_layout.specs.Sound.{IsSound}
-use Rattle.envy_layout.specs.Stands.{Stands}
-use Rattle.envy_layout.specs.Words.{durable}
+use Rattle.envy_soundness.specs.Sound.{IsSound}
+use Rattle.envy_meaning.specs.Stands.{Stands}
+use Rattle.envy_soundness.specs.Words.{durable}
 use Rattle.envy_memory.specs.Calls.{fresh}
 use Rattle.envy_memory.specs.Picture.{Picture}
 use Rattle.envy_table.specs.Hits.{page_at}
 use Rattle.envy_trace.specs.declared.reply.Reply.TheVariants.{Restarted}
-use Rattle.envy_serve.specs.declared.service.Obeyed.{Obeyed}
-use Rattle.envy_serve.specs.declared.service.Obeyed.TheVariants.{Done, WriteFault, Dead}
+use Rattle.envy_serve.specs.declared.service.LineOutcome.{LineOutcome}
+use Rattle.envy_serve.specs.declared.service.LineOutcome.TheVariants.{Done, WriteFault, Dead}
 use Rattle.envy_run.specs.Licence.{Licence}
 use Rattle.envy_run.specs.Tells.{CountsStay}
 use Rattle.envy_run.specs.Turns.{trace_grammar}
@@ -41,7 +41,7 @@ Restarts false old new = IsStillOff old new × (new.chart.lives ≡ 0)
 
 -- After a failure of power, whose own reply was written or not: power is asked for, and its return
 -- is told. Nothing more is written after a write that failed.
-abbrev pub Recovers : Result Unit Failed → Obeyed → Picture → Picture → Drain → Drain → Type 0
+abbrev pub Recovers : Result Unit Failed → LineOutcome → Picture → Picture → Drain → Drain → Type 0
 Recovers wrote Done old new sink then_sink = IsOk wrote × IsBack old new × Written (texts trace_grammar (Restarted ∷ [])) sink then_sink
 Recovers wrote WriteFault old new sink then_sink = IsBack old new × ((IsErr wrote × (then_sink ≡ sink)) ⊎ (IsOk wrote × FrontWritten (texts trace_grammar (Restarted ∷ [])) sink then_sink))
 Recovers wrote Dead old new sink then_sink = IsStillOff old new × (new.chart.lives ≡ 0) × (then_sink ≡ sink)

@@ -1,6 +1,6 @@
 -- The words of the program that serve a trace: what each means, and what the account of such a run is.
 use Rattle.std.specs.Prelude.{ℕ, List, [], Option, None, Some}
-use Rattle.envy_serve.specs.declared.serving.End.{End}
+use Rattle.envy_serve.specs.declared.server.End.{End}
 use Rattle.envy_serve.specs.Ends.{Serves, HasServed}
 use Rattle.envy_serve.specs.Grammar.{Grammar}
 use Rattle.envy_serve.specs.Streams.{Streams}

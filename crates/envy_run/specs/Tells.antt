@@ -1,8 +1,8 @@
 -- What a memory can tell of the lines that it did: its cache and its counters, from line to line.
 use Rattle.std.specs.Prelude.{◌≡◌, ℕ, ◌%◌, ◌==◌, ◌<◌, ◌≤◌, true, List, [], ◌∷◌, length, Option, None, Some, IfSome, if◌then◌else◌, sum}
 use Rattle.envy_base.specs.Counting.{up}
-use Rattle.envy_flush.specs.Counts.{Tallies}
-use Rattle.envy_flush.specs.declared.parts.Parts.{Parts}
+use Rattle.envy_engine.specs.Counts.{Tallies}
+use Rattle.envy_engine.specs.declared.parts.Parts.{Parts}
 use Rattle.envy_memory.specs.Picture.{Picture, counts_of}
 use Rattle.envy_table.specs.Entries.{Entry, Translations, is_hit}
 use Rattle.envy_table.specs.Hits.{page_at}

@@ -1,8 +1,8 @@
 -- What a memory did since a trace began, with the counts that license it.
 use Rattle.std.specs.Prelude.{◌≡◌, ◌<◌, IsTrue, true, ℕ, List, length, nat_lt, refl, Err}
 use Rattle.std.proofs.lemmas.Bool.{lt-ltb}
-use Rattle.envy_base.specs.Array.{Array}
-use Rattle.envy_layout.specs.Stands.{Stands}
+use Rattle.envy_array.specs.Array.{Array}
+use Rattle.envy_meaning.specs.Stands.{Stands}
 use Rattle.envy_map.specs.Fields.{Chart}
 use Rattle.envy_memory.specs.Picture.{Picture}
 use Rattle.envy_serve.specs.Turns.{count_lines, count_replies}

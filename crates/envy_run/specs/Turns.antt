@@ -2,10 +2,10 @@
 use Rattle.std.specs.Prelude.{◌≡◌, ◌⊎◌, ℕ, Bool, true, false, List, [], ◌∷◌, ◌++◌, Some}
 use Rattle.envy_base.specs.declared.faults.PlannedFault.{PlannedFault}
 use Rattle.envy_base.specs.declared.faults.PlannedFault.TheVariants.{Cut as PlanCut, Bad as PlanBad}
-use Rattle.envy_base.specs.Array.{Array, restarted}
-use Rattle.envy_base.specs.declared.counts.Counts.{Counts}
-use Rattle.envy_base.specs.Step.{Command, Answer, Step, Accepts, Lost}
-use Rattle.envy_base.specs.Step.{Load as DoLoad, Look as DoLook, Store as DoStore, Begin as DoBegin, Put as DoPut, Commit as DoCommit, Abort as DoAbort, Tick as DoTick}
+use Rattle.envy_array.specs.Array.{Array, restarted}
+use Rattle.envy_array.specs.declared.counts.Counts.{Counts}
+use Rattle.envy_array.specs.Step.{Command, Answer, Step, Accepts, Lost}
+use Rattle.envy_array.specs.Step.{Load as DoLoad, Look as DoLook, Store as DoStore, Begin as DoBegin, Put as DoPut, Commit as DoCommit, Abort as DoAbort, Tick as DoTick}
 use Rattle.envy_io.specs.Lines.{newline}
 use Rattle.envy_serve.specs.Answering.{said, losable}
 use Rattle.envy_trace.specs.declared.line.Line.{Line}

@@ -1,6 +1,6 @@
 ghost use Rattle.std.specs.Prelude.{◌≡◌, ◌≢◌, ◌↔◌, List, [], ◌∷◌, false, IsTrue, IfOk, Ok, Err};
-ghost use Rattle.envy_base.specs.Array.{Array};
-ghost use Rattle.envy_layout.specs.Stands.{Stands};
+ghost use Rattle.envy_array.specs.Array.{Array};
+ghost use Rattle.envy_meaning.specs.Stands.{Stands};
 ghost use Rattle.envy_memory.specs.Picture.{counts_of};
 ghost use Rattle.envy_run.specs.Answers.{Answered, AnswersTo, AnswerLicence, line_beside, line_of_plan};
 ghost use Rattle.envy_run.specs.Below.{WorksOf, FollowsRules};
@@ -149,20 +149,20 @@ fn tick<B: Board>(memory: &mut Memory<B>) -> Reply
 
 /// What a line asks for that no board does: its caller does it.
 #[derive(Clone, Copy, Debug, PartialEq, Eq)]
-pub enum Beside {
+pub enum BoardRequest {
     /// Nothing: it is empty.
     Nothing,
     /// Power is cut by hand.
     Power,
     /// A failure is planned.
-    Plan(PlannedFault),
+    PlannedFault(PlannedFault),
 }
 
 /// Does one line, where it is a call of a memory over any board, and the reply; what else a line asks for is handed back, and
 /// nothing changes. Each call but that for counters is answered by the array, whatever was done before; a line of counters
 /// tells the memory's, and nothing changes. `Lost` is the answer exactly where power failed in this call, `Fault` only where
 /// a flash operation failed in it. It begins as much flash work as that call may, by the memory's own rules.
-pub fn answer<B: Board>(memory: &mut Memory<B>, line: &Line) -> Result<Reply, Beside>
+pub fn answer<B: Board>(memory: &mut Memory<B>, line: &Line) -> Result<Reply, BoardRequest>
     requires { IsTrue memory.old.chart.on }
     ensures step { (earlier : List TraceTurn) (m : Array) → Stands memory.old.chart m
         → CanTell memory.old.chart.shape.entries earlier memory.old.parts
@@ -179,11 +179,11 @@ pub fn answer<B: Board>(memory: &mut Memory<B>, line: &Line) -> Result<Reply, Be
     ensures works { IfOk result (λ _. WorksOf line.now memory.old.chart memory.new.chart) }
     ensures rules { IfOk result (λ reply. FollowsRules line.now reply memory.old memory.new) }
 
-    ensures beside { (other : Beside) → result ≡ Err other → (line.now ≡ line_beside other)
+    ensures beside { (other : BoardRequest) → result ≡ Err other → (line.now ≡ line_beside other)
         × (memory.new ≡ memory.old) }
 {
     match *line {
-        Line::Empty => Err(Beside::Nothing),
+        Line::Empty => Err(BoardRequest::Nothing),
         Line::Load { address } => Ok(load(memory, address)),
         Line::Look { address } => Ok(look(memory, address)),
         Line::Store { address, word } => Ok(store(memory, address, word)),
@@ -196,9 +196,9 @@ pub fn answer<B: Board>(memory: &mut Memory<B>, line: &Line) -> Result<Reply, Be
         Line::Commit { slot } => Ok(commit(memory, slot)),
         Line::Abort { slot } => Ok(abort(memory, slot)),
         Line::Tick => Ok(tick(memory)),
-        Line::Power => Err(Beside::Power),
-        Line::Cut { k, g } => Err(Beside::Plan(PlannedFault::Cut { k, g })),
-        Line::Bad { k, g } => Err(Beside::Plan(PlannedFault::Bad { k, g })),
+        Line::Power => Err(BoardRequest::Power),
+        Line::Cut { k, g } => Err(BoardRequest::PlannedFault(PlannedFault::Cut { k, g })),
+        Line::Bad { k, g } => Err(BoardRequest::PlannedFault(PlannedFault::Bad { k, g })),
         Line::Stat => Ok(Reply::Stat(memory.counts())),
     }
 }

@@ -1,5 +1,5 @@
 ghost use Rattle.std.specs.Prelude.{◌≡◌, MatchResult, Ok};
-ghost use Rattle.envy_layout.specs.Sound.{IsSound};
+ghost use Rattle.envy_soundness.specs.Sound.{IsSound};
 ghost use Rattle.envy_map.specs.Fields.{chart, IsFormatted};
 ghost use Rattle.envy_policy.specs.Setup.{checked};
 ghost use Rattle.envy_run.specs.Attached.{IsAttached, Unattaches};

@@ -14,8 +14,8 @@ use arrayvec::ArrayVec;
 use envy_base::Maker;
 use envy_image::{Rule, Verdict};
 use envy_io::{Failed, Lines, Sink, Source, write_all};
-use envy_report::push_text;
 use envy_serve::MOST_BYTES;
+use envy_trace::push_text;
 use std::alloc::Global;
 
 /// How often power of an audited board can return.

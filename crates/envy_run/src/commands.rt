@@ -84,7 +84,7 @@ fn perform<S: Source, K: Sink, M: Maker>(
         Command::Gen { start, lines, mix } => run_gen(sink, start, lines, &mix),
         Command::Save { setup, lives } => run_save(alloc, setup, lives, source, sink, maker),
         Command::Audit { most } => run_audit(alloc, most, source, sink, maker),
-        Command::Segments { most } => run_map(alloc, most, source, sink, maker),
+        Command::Map { most } => run_map(alloc, most, source, sink, maker),
         Command::Index { setup, lives } => run_index(alloc, setup, lives, source, sink, maker),
         Command::Tpca {
             setup,

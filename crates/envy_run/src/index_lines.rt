@@ -19,7 +19,7 @@ use envy_base::Bench;
 use envy_btree::{IndexLine, IndexReply, index_text};
 use envy_io::{Failed, Sink, write_all};
 use envy_memory::{OneTx, ReviveFault};
-use envy_serve::Obeyed;
+use envy_serve::LineOutcome;
 
 /// Writes a reply and its newline as one piece.
 fn write_index_reply<K: Sink>(
@@ -56,21 +56,21 @@ fn recover_words<K: Sink, B: Bench>(
     sink: &mut K,
     wrote: Result<(), Failed>,
     buffer: &mut ReplyBuffer,
-) -> Obeyed
+) -> LineOutcome
     requires { words.old.memory.chart.on ≡ false }
     ensures { RecoversIndex wrote result words.old.memory.chart words.new.memory words.new.begun (K.drain sink.old)
         (K.drain sink.new) }
 {
     if !restart_words(words) {
-        return Obeyed::Dead;
+        return LineOutcome::Dead;
     }
     match wrote {
         Ok(()) => {}
-        Err(Failed) => return Obeyed::WriteFault,
+        Err(Failed) => return LineOutcome::WriteFault,
     }
     match write_index_reply(sink, &IndexReply::Restarted, buffer) {
-        Ok(()) => Obeyed::Done,
-        Err(Failed) => Obeyed::WriteFault,
+        Ok(()) => LineOutcome::Done,
+        Err(Failed) => LineOutcome::WriteFault,
     }
 }
 
@@ -79,7 +79,7 @@ fn obey_index_power<K: Sink, B: Bench>(
     words: &mut OneTx<B>,
     sink: &mut K,
     buffer: &mut ReplyBuffer,
-) -> Obeyed
+) -> LineOutcome
     requires { IsTrue words.old.memory.chart.on }
     ensures { (es : Pairs) → Serving words.old.memory words.old.begun es
         → ObeysIndex (most_of words.old.memory.chart.shape.pages) es Power result words.old.memory.chart
@@ -95,7 +95,7 @@ fn tell<K: Sink, B: Bench>(
     sink: &mut K,
     reply: &IndexReply,
     buffer: &mut ReplyBuffer,
-) -> Obeyed
+) -> LineOutcome
     requires { reply.now ≡ Lost → words.old.memory.chart.on ≡ false }
     ensures { (line : IndexLine) (es : Pairs) (before : Picture) (begun : Bool) → Serving before begun es
         → AnswersIndex (most_of before.chart.shape.pages) es line reply.now words.old.memory words.old.begun
@@ -109,8 +109,8 @@ fn tell<K: Sink, B: Bench>(
         return recover_words(words, sink, wrote, buffer);
     }
     match wrote {
-        Ok(()) => Obeyed::Done,
-        Err(Failed) => Obeyed::WriteFault,
+        Ok(()) => LineOutcome::Done,
+        Err(Failed) => LineOutcome::WriteFault,
     }
 }
 
@@ -120,7 +120,7 @@ pub fn obey_index<K: Sink, B: Bench>(
     sink: &mut K,
     line: &IndexLine,
     buffer: &mut ReplyBuffer,
-) -> Obeyed
+) -> LineOutcome
     requires ready { (es : Pairs) × Serving words.old.memory words.old.begun es }
     requires ranges { IsIndexLine line.now }
     ensures { (es : Pairs) → Serving words.old.memory words.old.begun es
@@ -128,7 +128,7 @@ pub fn obey_index<K: Sink, B: Bench>(
         words.new.memory words.new.begun (K.drain sink.old) (K.drain sink.new) }
 {
     match *line {
-        IndexLine::Empty => Obeyed::Done,
+        IndexLine::Empty => LineOutcome::Done,
         IndexLine::Power => obey_index_power(words, sink, buffer),
         IndexLine::Get { key } => {
             let reply = ask(words, key);

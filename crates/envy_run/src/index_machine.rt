@@ -9,7 +9,7 @@ use envy_base::Bench;
 use envy_btree::{IndexLine, IndexReply, index_grammar_holds_both_ways, read_index_line};
 use envy_io::{Failed, Sink};
 use envy_memory::OneTx;
-use envy_serve::{Obeyed, Service};
+use envy_serve::{LineOutcome, Service};
 use envy_trace::LineFault;
 
 /// The words of a memory that hold an index.
@@ -44,7 +44,7 @@ impl<B: Bench> Service for Indexing<B> {
         read_index_line(bytes)
     }
 
-    fn obey<K: Sink>(&mut self, line: &IndexLine, sink: &mut K) -> Obeyed {
+    fn obey<K: Sink>(&mut self, line: &IndexLine, sink: &mut K) -> LineOutcome {
         index_grammar_holds_both_ways();
         obey_index(&mut self.words, sink, line, &mut self.buffer)
     }

@@ -27,7 +27,7 @@ mod save_run;
 mod tpca_run;
 mod trace_machine;
 
-pub use answers::{Beside, answer, arm};
+pub use answers::{BoardRequest, answer, arm};
 pub use commands::run;
 pub use ended::{Ended, end_text};
 pub use laws::memory_and_plain_machine_write_alike;

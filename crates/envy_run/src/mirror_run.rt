@@ -14,7 +14,7 @@ use crate::preparation::{Unready, prepare, why_unready};
 use envy_base::Maker;
 use envy_io::{Lines, Sink, Source};
 use envy_mirror::Mirror;
-use envy_pair::Pairing;
+use envy_pair::MirrorService;
 use envy_policy::Setup;
 use envy_serve::{MOST_BYTES, serve};
 use std::alloc::Global;
@@ -76,7 +76,7 @@ pub fn run_mirror<S: Source, K: Sink, M: Maker>(
             return unmirrored(Unready::Memory, first.into_board(), second.into_board());
         }
     };
-    let mut pairing = Pairing::new(mirror);
+    let mut pairing = MirrorService::new(mirror);
     let served = serve(&mut pairing, source, sink, Lines::new(MOST_BYTES));
     let (one, two) = pairing.into_mirror().into_boards();
     Finished {

@@ -16,11 +16,11 @@ ghost use Rattle.envy_serve.specs.Streams.{streams_of};
 use crate::endings::{Ending, Finished, finished_with, unserved};
 use crate::restart::{ReplyBuffer, write_reply};
 use crate::trace_machine::read_any;
-use envy_base::Counts;
+use envy_array::Counts;
 use envy_io::{Failed, Lines, Sink, Source};
 use envy_plain::{Plain, Refusal};
 use envy_policy::Setup;
-use envy_serve::{MOST_BYTES, Obeyed, Service, serve};
+use envy_serve::{LineOutcome, MOST_BYTES, Service, serve};
 use envy_trace::{Line, LineFault, Reply};
 use std::alloc::Global;
 
@@ -105,7 +105,7 @@ pub(crate) struct Calm {
 
 impl Service for Calm {
     ghost use Rattle.std.specs.Prelude.{⊤, []};
-    ghost use Rattle.envy_base.specs.Array.{Array};
+    ghost use Rattle.envy_array.specs.Array.{Array};
     ghost use Rattle.envy_run.specs.Calm.{HasDoneCalmly, NeverDies};
     ghost use Rattle.envy_run.specs.Tracing.{long_any};
     ghost use Rattle.envy_run.specs.Turns.{trace_grammar};
@@ -130,10 +130,10 @@ impl Service for Calm {
         read_any(bytes)
     }
 
-    fn obey<K: Sink>(&mut self, line: &Line, sink: &mut K) -> Obeyed {
+    fn obey<K: Sink>(&mut self, line: &Line, sink: &mut K) -> LineOutcome {
         match obey_plain(&mut self.plain, sink, line, &mut self.buffer) {
-            Ok(()) => Obeyed::Done,
-            Err(Failed) => Obeyed::WriteFault,
+            Ok(()) => LineOutcome::Done,
+            Err(Failed) => LineOutcome::WriteFault,
         }
     }
 

@@ -1,8 +1,8 @@
 ghost use Rattle.std.specs.Prelude.{◌≡◌, IsTrue, List};
 ghost use Rattle.envy_run.specs.Turns.{TraceTurn};
-ghost use Rattle.envy_base.specs.Array.{Array};
+ghost use Rattle.envy_array.specs.Array.{Array};
 ghost use Rattle.envy_run.specs.Hits.{MayTell};
-ghost use Rattle.envy_layout.specs.Stands.{Stands};
+ghost use Rattle.envy_meaning.specs.Stands.{Stands};
 ghost use Rattle.envy_trace.specs.declared.line.Line.TheVariants.{Power};
 ghost use Rattle.envy_memory.specs.Picture.{Picture};
 ghost use Rattle.envy_run.specs.Obeys.{LineAnswers, ObeysLine};
@@ -12,7 +12,7 @@ use crate::restart::{ReplyBuffer, recover, write_reply};
 use envy_base::Bench;
 use envy_io::{Failed, Sink};
 use envy_memory::Memory;
-use envy_serve::Obeyed;
+use envy_serve::LineOutcome;
 use envy_trace::Reply;
 
 /// Cuts power by hand and asks for it.
@@ -20,7 +20,7 @@ pub fn obey_power<K: Sink, B: Bench>(
     memory: &mut Memory<B>,
     sink: &mut K,
     buffer: &mut ReplyBuffer,
-) -> Obeyed
+) -> LineOutcome
     requires { IsTrue memory.old.chart.on }
     ensures { (earlier : List TraceTurn) (m : Array) → Stands memory.old.chart m
         → ObeysLine (MayTell memory.old.chart.shape.entries earlier) m Power result memory.old memory.new
@@ -36,7 +36,7 @@ pub fn tell<K: Sink, B: Bench>(
     sink: &mut K,
     reply: &Reply,
     buffer: &mut ReplyBuffer,
-) -> Obeyed
+) -> LineOutcome
     ensures { (line : Line) (earlier : List TraceTurn) (m : Array) (before : Picture) → Stands before.chart m
         → LineAnswers (MayTell before.chart.shape.entries earlier) m line reply.now before memory.old
         → ObeysLine (MayTell before.chart.shape.entries earlier) m line result before memory.new (K.drain sink.old)
@@ -47,7 +47,7 @@ pub fn tell<K: Sink, B: Bench>(
         return recover(memory, sink, wrote, buffer);
     }
     match wrote {
-        Ok(()) => Obeyed::Done,
-        Err(Failed) => Obeyed::WriteFault,
+        Ok(()) => LineOutcome::Done,
+        Err(Failed) => LineOutcome::WriteFault,
     }
 }

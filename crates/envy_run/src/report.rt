@@ -4,15 +4,15 @@ ghost use Rattle.std.specs.Prelude.{◌++◌, ◌∷◌, ◌≤◌, [], decimal,
 ghost use Rattle.std.specs.Fmt.{signed_decimal};
 ghost use Rattle.envy_io.specs.Lines.{newline};
 ghost use Rattle.envy_io.specs.Streams.{WritesAll};
-ghost use Rattle.envy_report.specs.Stat.{stat_bytes};
+ghost use Rattle.envy_trace.specs.Stat.{stat_bytes};
 ghost use Rattle.envy_run.specs.Drives.{named, report, sums_text};
 ghost use Rattle.envy_run.specs.Writing.{WritesOut};
 
 use arrayvec::ArrayVec;
-use envy_base::{Area, Counts};
+use envy_array::{Area, Counts};
 use envy_io::{Failed, Sink, write_all};
-use envy_report::{push_text, stat_text};
 use envy_tpca::Sums;
+use envy_trace::{push_text, stat_text};
 use itoa::Buffer;
 
 /// Writes a name and the digits of a number on a line.

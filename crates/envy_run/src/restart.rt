@@ -8,7 +8,7 @@ use arrayvec::ArrayVec;
 use envy_base::Bench;
 use envy_io::{Failed, Sink, write_all};
 use envy_memory::{Memory, ReviveFault};
-use envy_serve::Obeyed;
+use envy_serve::LineOutcome;
 use envy_trace::{Reply, reply_text};
 
 /// Where replies are built, one after another, for as long as a run lasts.
@@ -61,19 +61,19 @@ pub fn recover<K: Sink, B: Bench>(
     sink: &mut K,
     wrote: Result<(), Failed>,
     buffer: &mut ReplyBuffer,
-) -> Obeyed
+) -> LineOutcome
     requires { memory.old.chart.on ≡ false }
     ensures { Recovers wrote result memory.old memory.new (K.drain sink.old) (K.drain sink.new) }
 {
     if !restart(memory) {
-        return Obeyed::Dead;
+        return LineOutcome::Dead;
     }
     match wrote {
         Ok(()) => {}
-        Err(Failed) => return Obeyed::WriteFault,
+        Err(Failed) => return LineOutcome::WriteFault,
     }
     match write_reply(sink, &Reply::Restarted, buffer) {
-        Ok(()) => Obeyed::Done,
-        Err(Failed) => Obeyed::WriteFault,
+        Ok(()) => LineOutcome::Done,
+        Err(Failed) => LineOutcome::WriteFault,
     }
 }

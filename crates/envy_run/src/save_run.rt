@@ -16,7 +16,7 @@ use envy_base::{Board, Maker};
 use envy_image::{OutFault, write_image};
 use envy_io::{Failed, Sink, Source};
 use envy_policy::Setup;
-use envy_serve::Nothing;
+use envy_serve::NullSink;
 use std::alloc::Global;
 
 /// Writes the image of a board, and flushes the sink.
@@ -49,7 +49,7 @@ pub fn run_save<S: Source, K: Sink, M: Maker>(
     ensures read { result.taken ≤ most_bytes }
     ensures second { result.second ≡ None }
 {
-    let mut traced = run_trace(alloc, setup, lives, source, &mut Nothing::new(), maker);
+    let mut traced = run_trace(alloc, setup, lives, source, &mut NullSink::new(), maker);
     match traced.ending {
         Ending::Done => {}
         _ => return traced,

@@ -1,9 +1,9 @@
 //! A bank's load over a fresh memory, and the report of its sums.
 
 ghost use Rattle.std.specs.Prelude.{◌≡◌, ◌⊎◌, ◌^◌, ◌≤◌, None, Ok};
-ghost use Rattle.envy_base.specs.Area.{Fits};
-ghost use Rattle.envy_base.specs.Array.{zeros};
-ghost use Rattle.envy_layout.specs.Stands.{Stands};
+ghost use Rattle.envy_array.specs.Area.{Fits};
+ghost use Rattle.envy_array.specs.Array.{zeros};
+ghost use Rattle.envy_meaning.specs.Stands.{Stands};
 ghost use Rattle.envy_policy.specs.Setup.{checked};
 ghost use Rattle.envy_run.specs.Driven.{AfterLoad};
 ghost use Rattle.envy_run.specs.Drives.{FailsAsPlanned, TellsReturns, driving, load_of};
@@ -16,7 +16,8 @@ ghost use Rattle.envy_serve.specs.Ends.{most_bytes};
 use crate::endings::{Ending, Finished, unserved, written};
 use crate::preparation::make_memory;
 use crate::report::write_report;
-use envy_base::{Area, Bench, MOST_ROWS, Maker};
+use envy_array::Area;
+use envy_base::{Bench, MOST_ROWS, Maker};
 use envy_io::Sink;
 use envy_memory::Memory;
 use envy_policy::Setup;

@@ -1,22 +1,22 @@
 //! A memory that answers the lines of a trace.
 
 ghost use Rattle.std.specs.Prelude.{◌≡◌, ℕ, List, [], IfOk, IsTrue};
-ghost use Rattle.envy_base.specs.Array.{Array};
+ghost use Rattle.envy_array.specs.Array.{Array};
 ghost use Rattle.envy_run.specs.Hits.{MayTell};
-ghost use Rattle.envy_layout.specs.Stands.{Stands};
+ghost use Rattle.envy_meaning.specs.Stands.{Stands};
 ghost use Rattle.envy_run.specs.Obeys.{ObeysLine};
 ghost use Rattle.envy_run.specs.Tells.{CanTell};
 ghost use Rattle.envy_run.specs.Turns.{TraceTurn};
 ghost use Rattle.envy_trace.specs.Grammar.{line_of};
 ghost use Rattle.envy_serve.specs.Grammar.{IsSaid};
 
-use crate::answers::{Beside, answer, arm};
+use crate::answers::{BoardRequest, answer, arm};
 use crate::power_lines::{obey_power, tell};
 use crate::restart::ReplyBuffer;
 use envy_base::Bench;
 use envy_io::{Failed, Sink};
 use envy_memory::Memory;
-use envy_serve::{Obeyed, Service};
+use envy_serve::{LineOutcome, Service};
 use envy_trace::{Line, LineFault, Reply, grammar_holds_both_ways, read_line};
 
 /// A memory, and what it was when the trace began.
@@ -57,13 +57,13 @@ impl<B: Bench> Service for Tracing<B> {
         read_any(bytes)
     }
 
-    fn obey<K: Sink>(&mut self, line: &Line, sink: &mut K) -> Obeyed {
+    fn obey<K: Sink>(&mut self, line: &Line, sink: &mut K) -> LineOutcome {
         grammar_holds_both_ways();
         match answer(&mut self.memory, line) {
             Ok(reply) => tell(&mut self.memory, sink, &reply, &mut self.buffer),
-            Err(Beside::Nothing) => Obeyed::Done,
-            Err(Beside::Power) => obey_power(&mut self.memory, sink, &mut self.buffer),
-            Err(Beside::Plan(plan)) => {
+            Err(BoardRequest::Nothing) => LineOutcome::Done,
+            Err(BoardRequest::Power) => obey_power(&mut self.memory, sink, &mut self.buffer),
+            Err(BoardRequest::PlannedFault(plan)) => {
                 let reply = arm(&mut self.memory, plan);
                 tell(&mut self.memory, sink, &reply, &mut self.buffer)
             }

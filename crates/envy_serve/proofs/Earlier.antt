@@ -5,8 +5,8 @@ use Rattle.envy_io.specs.Streams.{Feed}
 use Rattle.envy_io.specs.Taking.{Taking}
 use Rattle.envy_io.proofs.Counts.{Rises-after}
 use Rattle.envy_trace.specs.declared.fault.LineFault.{LineFault}
-use Rattle.envy_serve.specs.declared.serving.End.{End}
-use Rattle.envy_serve.specs.declared.serving.End.TheVariants.{Done as EndDone, ReadFault, WriteFault, FlushFault, Refused, Dead as EndDead, TooLong}
+use Rattle.envy_serve.specs.declared.server.End.{End}
+use Rattle.envy_serve.specs.declared.server.End.TheVariants.{Done as EndDone, ReadFault, WriteFault, FlushFault, Refused, Dead as EndDead, TooLong}
 use Rattle.envy_serve.specs.Ends.{Serves, Ends, HasReadTo}
 use Rattle.envy_serve.specs.Grammar.{Grammar}
 use Rattle.envy_serve.specs.Reading.{HasRead, ReadAll, ReadBetween, ReadStuck}

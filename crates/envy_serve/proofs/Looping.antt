@@ -7,9 +7,9 @@ use Rattle.envy_io.specs.Streams.{Feed, Drain}
 use Rattle.envy_io.specs.Taking.{Taking, HasGiven}
 use Rattle.envy_io.proofs.TakesLemmas.{with_front-nil}
 use Rattle.envy_io.proofs.WritesLemmas.{with_end-nil}
-use Rattle.envy_serve.specs.declared.serving.End.{End}
-use Rattle.envy_serve.specs.declared.serving.Served.{Served}
-use Rattle.envy_serve.specs.declared.serving.End.TheVariants.{Done as EndDone, ReadFault, WriteFault, FlushFault, Refused, Dead as EndDead, TooLong}
+use Rattle.envy_serve.specs.declared.server.End.{End}
+use Rattle.envy_serve.specs.declared.server.Served.{Served}
+use Rattle.envy_serve.specs.declared.server.End.TheVariants.{Done as EndDone, ReadFault, WriteFault, FlushFault, Refused, Dead as EndDead, TooLong}
 use Rattle.envy_serve.specs.Ends.{Progress, Ends, Serves, IsAtStart, most_bytes}
 use Rattle.envy_serve.specs.Grammar.{Grammar}
 use Rattle.envy_serve.specs.Reading.{HasRead, IsMet, ReadAll, ReadBetween, ReadStuck}

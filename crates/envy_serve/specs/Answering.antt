@@ -1,8 +1,8 @@
 -- What a line of a trace asks of the plain array, and the reply that says its answer.
 use Rattle.std.specs.Prelude.{Option, None, Some}
-use Rattle.envy_base.specs.Step.{Command, Answer}
-use Rattle.envy_base.specs.Step.{Store as DoStore, Begin as DoBegin, Put as DoPut, Commit as DoCommit, Abort as DoAbort, Tick as DoTick}
-use Rattle.envy_base.specs.Step.{Word as IsWord, Done as IsDone, Started as IsStarted, Range as IsRange, Held as IsHeld, Closed as IsClosed, Full as IsFull, Busy as IsBusy}
+use Rattle.envy_array.specs.Step.{Command, Answer}
+use Rattle.envy_array.specs.Step.{Store as DoStore, Begin as DoBegin, Put as DoPut, Commit as DoCommit, Abort as DoAbort, Tick as DoTick}
+use Rattle.envy_array.specs.Step.{Word as IsWord, Done as IsDone, Started as IsStarted, Range as IsRange, Held as IsHeld, Closed as IsClosed, Full as IsFull, Busy as IsBusy}
 use Rattle.envy_trace.specs.declared.line.Line.{Line}
 use Rattle.envy_trace.specs.declared.line.Line.TheVariants.{Store, Begin, Put, Commit, Abort, Tick}
 use Rattle.envy_trace.specs.declared.reply.Reply.{Reply}

@@ -5,8 +5,8 @@ use Rattle.envy_io.specs.Lines.{NoNewline, lines_of, spelled}
 use Rattle.envy_io.specs.Streams.{Feed, Rises, IsDry, with_front}
 use Rattle.envy_io.specs.Taking.{Taking, HasGiven}
 use Rattle.envy_trace.specs.declared.fault.LineFault.{LineFault}
-use Rattle.envy_serve.specs.declared.fetching.Stop.{Stop}
-use Rattle.envy_serve.specs.declared.fetching.Stop.TheVariants.{Finished, Refused, Failed, Spent}
+use Rattle.envy_serve.specs.declared.next_line.NoLine.{NoLine}
+use Rattle.envy_serve.specs.declared.next_line.NoLine.TheVariants.{Finished, Refused, Failed, Spent}
 
 -- the bytes taken from the source, behind those skipped, gave these pieces, each of which said its line
 pub record HasRead {Line : Type 0} (reads : List ℕ → Result Line LineFault) (skipped : ℕ) (from feed : Feed) (reader : Taking) (lines : List Line) : Type 0 where
@@ -55,13 +55,13 @@ pub record ReadStuck {Line : Type 0} (fault : LineFault) (reads : List ℕ → R
   pub refused : reads piece ≡ Err fault
 
 -- why no line comes after these
-abbrev pub Stopped : {Line : Type 0} → Stop → (List ℕ → Result Line LineFault) → ℕ → Feed → Feed → Taking → List Line → Type 0
+abbrev pub Stopped : {Line : Type 0} → NoLine → (List ℕ → Result Line LineFault) → ℕ → Feed → Feed → Taking → List Line → Type 0
 Stopped Finished reads skipped from feed reader lines = ReadAll reads skipped from feed reader lines
 Stopped (Refused fault) reads skipped from feed reader lines = ReadStuck fault reads skipped from feed reader lines
 Stopped Failed reads skipped from feed reader lines = ReadBetween reads skipped from feed reader lines × Rises from.faults feed.faults × (reader.taken < reader.cap)
 Stopped Spent reads skipped from feed reader lines = ReadBetween reads skipped from feed reader lines × (reader.taken ≡ reader.cap)
 
 -- a line comes after these, or none
-abbrev pub Fetches : {Line : Type 0} → Result Line Stop → (List ℕ → Result Line LineFault) → ℕ → Feed → Feed → Taking → List Line → Type 0
+abbrev pub Fetches : {Line : Type 0} → Result Line NoLine → (List ℕ → Result Line LineFault) → ℕ → Feed → Feed → Taking → List Line → Type 0
 Fetches (Ok line) reads skipped from feed reader lines = HasRead reads skipped from feed reader (lines ++ line ∷ [])
 Fetches (Err stop) reads skipped from feed reader lines = Stopped stop reads skipped from feed reader lines

@@ -2,8 +2,8 @@
 ghost use Rattle.envy_places.specs.Places.{held};
 ghost use Rattle.envy_shown.specs.Shown.{ShowsJob, ShowsPage, ShowsPosition, ShowsRow, ShowsSegment};
 
+use crate::contents::{show_job, show_page, show_position, show_row, show_segment};
 use crate::shapes::{EnvyJob, EnvyPage, EnvyRow, EnvySegment};
-use crate::showing::{show_job, show_page, show_position, show_row, show_segment};
 use envy_base::Board;
 use envy_places::MemoryPlace;
 

@@ -9,11 +9,11 @@ use Rattle.envy_base.specs.declared.shape.Shape.{Shape}
 use Rattle.envy_base.specs.declared.fields.Place.{Place}
 use Rattle.envy_base.specs.declared.fields.Place.TheVariants.{Absent, Row, Frame}
 use Rattle.envy_map.specs.Fields.{Fields, place, undo}
-use Rattle.envy_layout.specs.Words.{kept}
-use Rattle.envy_layout.specs.Sound.{Sound, Places}
-use Rattle.envy_layout.specs.RowKinds.{is_row, is_in, is_shadow_in, kept_in}
-use Rattle.envy_layout.proofs.KeptCounts.{kept_in-pages, kept_in-le-fill}
-use Rattle.envy_layout.specs.PageRows.{page_kept_in}
+use Rattle.envy_soundness.specs.Words.{kept}
+use Rattle.envy_soundness.specs.Sound.{Sound, Places}
+use Rattle.envy_soundness.specs.RowKinds.{is_row, is_in, is_shadow_in, kept_in}
+use Rattle.envy_soundness.proofs.KeptCounts.{kept_in-pages, kept_in-le-fill}
+use Rattle.envy_soundness.specs.PageRows.{page_kept_in}
 use Rattle.envy_space.specs.Pool.{Pool, HasCounted, IsShadow, kept_in_first, with_kept, noted_kept}
 use Rattle.envy_space.proofs.SpaceLemmas.{sum_by-range_more}
 

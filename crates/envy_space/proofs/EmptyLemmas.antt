@@ -9,11 +9,11 @@ use Rattle.envy_base.specs.declared.fields.Undo.{Undo}
 use Rattle.envy_base.specs.declared.fields.Undo.TheVariants.{Clear}
 use Rattle.envy_base.specs.declared.shape.Shape.{Shape}
 use Rattle.envy_map.specs.Fields.{Fields, Chart, place, undo}
-use Rattle.envy_layout.specs.Formatting.{IsEmpty, aside}
-use Rattle.envy_layout.specs.Sound.{Sound, Places, Slots, Names}
-use Rattle.envy_layout.specs.Words.{kept_by}
-use Rattle.envy_layout.proofs.Arranged.{laid-plain, plain-fill}
-use Rattle.envy_layout.proofs.KeptCounts.{kept_in-none}
+use Rattle.envy_soundness.specs.Formatting.{IsEmpty, aside}
+use Rattle.envy_soundness.specs.Sound.{Sound, Places, Slots, Names}
+use Rattle.envy_soundness.specs.Words.{kept_by}
+use Rattle.envy_soundness.proofs.Arranged.{laid-plain, plain-fill}
+use Rattle.envy_soundness.proofs.KeptCounts.{kept_in-none}
 use Rattle.envy_space.specs.Pool.{PoolAgrees, empty_pool}
 use Rattle.envy_base.specs.Shape.{all_positions_of}
 

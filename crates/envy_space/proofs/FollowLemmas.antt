@@ -11,13 +11,13 @@ use Rattle.envy_base.specs.declared.fields.Undo.{Undo}
 use Rattle.envy_base.specs.declared.fields.Undo.TheVariants.{Shadow}
 use Rattle.envy_map.specs.Fields.{Fields, place, undo, slot}
 use Rattle.envy_map.specs.Writes.{with_place, with_undo}
-use Rattle.envy_layout.specs.Naming.{IsNamed, with_named, AreParted}
-use Rattle.envy_layout.specs.PageRows.{page_kept_in}
-use Rattle.envy_layout.specs.RowKinds.{is_row, is_in, is_shadow_in}
-use Rattle.envy_layout.specs.Sound.{Sound, Slots, Places, Names, owned_by}
-use Rattle.envy_layout.specs.Words.{kept, kept_by}
-use Rattle.envy_layout.proofs.KeptLemmas.{kept_by-free, kept_by-owned, kept_by-shadow, kept_by-active, Names-range}
-use Rattle.envy_layout.proofs.NamingLemmas.{Names-named, named-page}
+use Rattle.envy_soundness.specs.Naming.{IsNamed, with_named, AreParted}
+use Rattle.envy_soundness.specs.PageRows.{page_kept_in}
+use Rattle.envy_soundness.specs.RowKinds.{is_row, is_in, is_shadow_in}
+use Rattle.envy_soundness.specs.Sound.{Sound, Slots, Places, Names, owned_by}
+use Rattle.envy_soundness.specs.Words.{kept, kept_by}
+use Rattle.envy_soundness.proofs.KeptLemmas.{kept_by-free, kept_by-owned, kept_by-shadow, kept_by-active, Names-range}
+use Rattle.envy_soundness.proofs.NamingLemmas.{Names-named, named-page}
 use Rattle.envy_space.specs.Following.{Followed}
 use Rattle.envy_space.specs.Noting.{lies_in, ChangesPage, NamesInPlace}
 use Rattle.envy_space.specs.Pool.{Pool, PoolAgrees, noted_dead}

@@ -5,11 +5,11 @@ use Rattle.std.proofs.lemmas.List.{get_or-set_same, get_or-set_other, length-set
 use Rattle.envy_base.specs.declared.shape.Shape.{Shape}
 use Rattle.envy_base.specs.declared.fields.Slot.{Slot}
 use Rattle.envy_map.specs.Fields.{Fields, place, undo}
-use Rattle.envy_layout.specs.PageRows.{page_kept_in}
-use Rattle.envy_layout.specs.RowKinds.{kept_in}
-use Rattle.envy_layout.specs.Sound.{Sound}
-use Rattle.envy_layout.proofs.KeptCounts.{kept_in-page, kept_in-pages, kept_in-le-fill}
-use Rattle.envy_layout.proofs.RangeSums.{range_has}
+use Rattle.envy_soundness.specs.PageRows.{page_kept_in}
+use Rattle.envy_soundness.specs.RowKinds.{kept_in}
+use Rattle.envy_soundness.specs.Sound.{Sound}
+use Rattle.envy_soundness.proofs.KeptCounts.{kept_in-page, kept_in-pages, kept_in-le-fill}
+use Rattle.envy_soundness.proofs.RangeSums.{range_has}
 use Rattle.envy_space.specs.Noting.{rows_of_page, lies_in, ChangesPage, NamesAsMany, NamesOneMore, NamesInPlace}
 use Rattle.envy_space.specs.Pool.{Pool, PoolAgrees, with_kept, noted_kept, noted_dead}
 use Rattle.envy_space.proofs.CountLemmas.{risen, segment_fits}

@@ -10,11 +10,11 @@ use Rattle.envy_base.specs.declared.fields.Slot.{Slot}
 use Rattle.envy_base.specs.declared.fields.Undo.{Undo}
 use Rattle.envy_map.specs.Fields.{Fields, place, undo}
 use Rattle.envy_map.specs.Writes.{with_place}
-use Rattle.envy_layout.specs.PageRows.{page_kept_in}
-use Rattle.envy_layout.specs.RowKinds.{is_in, is_shadow_in, is_row}
-use Rattle.envy_layout.specs.Sound.{Sound, owned_by}
-use Rattle.envy_layout.specs.Words.{kept_by}
-use Rattle.envy_layout.proofs.KeptLemmas.{kept_by-free, kept_by-owned}
+use Rattle.envy_soundness.specs.PageRows.{page_kept_in}
+use Rattle.envy_soundness.specs.RowKinds.{is_in, is_shadow_in, is_row}
+use Rattle.envy_soundness.specs.Sound.{Sound, owned_by}
+use Rattle.envy_soundness.specs.Words.{kept_by}
+use Rattle.envy_soundness.proofs.KeptLemmas.{kept_by-free, kept_by-owned}
 use Rattle.envy_space.specs.Noting.{lies_in, ChangesPage, NamesOneMore, Rowed, Leaving}
 use Rattle.envy_space.specs.Pool.{Pool, PoolAgrees, noted_kept, noted_dead}
 use Rattle.envy_space.proofs.NotingLemmas.{PoolAgrees-kept, PoolAgrees-dead, PoolAgrees-same, room-kept}

@@ -8,9 +8,9 @@ use Rattle.envy_base.specs.declared.fields.Job.TheVariants.{Copy, Erase}
 use Rattle.envy_base.specs.State.{ones}
 use Rattle.envy_map.specs.Fields.{Fields, Chart, with_fields}
 use Rattle.envy_map.specs.Writes.{with_back, with_fill, with_position}
-use Rattle.envy_layout.specs.Claims.{IsUsable}
-use Rattle.envy_layout.specs.Sound.{Sound, Rows, Numbers, Blanks, IsSound, IsSpare}
-use Rattle.envy_layout.proofs.References.{apart-spare}
+use Rattle.envy_soundness.specs.Claims.{IsUsable}
+use Rattle.envy_soundness.specs.Sound.{Sound, Rows, Numbers, Blanks, IsSound, IsSpare}
+use Rattle.envy_soundness.proofs.References.{apart-spare}
 use Rattle.envy_space.specs.Pool.{Pool, IsPool, PoolAgrees, Claimed, StandsAt, with_filled, with_segment_at}
 use Rattle.envy_base.specs.Shape.{all_positions_of}
 

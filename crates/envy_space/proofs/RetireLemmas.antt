@@ -4,7 +4,7 @@ use Rattle.envy_base.specs.Shape.{all_positions_of}
 use Rattle.envy_base.specs.declared.shape.Shape.{Shape}
 use Rattle.envy_map.specs.Fields.{Chart, with_fields}
 use Rattle.envy_map.specs.Writes.{with_fill, with_position}
-use Rattle.envy_layout.specs.Sound.{IsSpare}
+use Rattle.envy_soundness.specs.Sound.{IsSpare}
 use Rattle.envy_space.specs.Pool.{Pool, IsPool, IsPoolOf, PoolAgrees, StandsAt, with_filled, with_segment_at}
 use Rattle.envy_space.specs.Retiring.{RetiresTo}
 use Rattle.envy_space.proofs.PoolLemmas.{StandsAt-spare}

@@ -9,7 +9,7 @@ use Rattle.std.proofs.lemmas.Option.{get_or_from_slice_get, slice_get-get_or}
 use Rattle.std.proofs.lemmas.List.FromFn.{get_or-range_with_len, length-range_with_len, sum_by-map-range_with_len_more}
 use Rattle.envy_base.specs.declared.shape.Shape.{Shape}
 use Rattle.envy_base.specs.Shape.{IsShape, all_positions_of, positions_of}
-use Rattle.envy_layout.specs.Sound.{IsPlaced, IsSpare}
+use Rattle.envy_soundness.specs.Sound.{IsPlaced, IsSpare}
 use Rattle.envy_space.specs.Order.{IsOrder}
 use Rattle.envy_space.specs.Pool.{Pool, IsPool, IsSpace, StandsAt, empty_pool, free_at, dead_at}
 use Rattle.envy_space.specs.Winners.{flag}

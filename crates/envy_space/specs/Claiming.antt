@@ -1,8 +1,8 @@
 -- What the claim of a row needs, and what it leaves.
 use Rattle.std.specs.Prelude.{◌≡◌, ℕ, ◌+◌, slice_index}
 use Rattle.envy_map.specs.Fields.{Chart}
-use Rattle.envy_layout.specs.Claims.{IsUsable}
-use Rattle.envy_layout.specs.Sound.{IsSound}
+use Rattle.envy_soundness.specs.Claims.{IsUsable}
+use Rattle.envy_soundness.specs.Sound.{IsSound}
 use Rattle.envy_space.specs.Pool.{Pool, PoolAgrees, Claims, Claimed, with_filled}
 
 -- the map is sound, the pool's numbers are the map's, and rows of segment s may be claimed

@@ -7,12 +7,10 @@ pub mod Pool
 pub mod Retiring
 pub mod Rising
 pub mod Winners
-pub use Rattle.envy_base.specs.Array
 pub use Rattle.envy_base.specs.Counting
 pub use Rattle.envy_base.specs.Map
 pub use Rattle.envy_base.specs.Shape
 pub use Rattle.envy_base.specs.State
-pub use Rattle.envy_base.specs.Step
 pub use Rattle.envy_map.specs.Codes
 pub use Rattle.envy_map.specs.Fields
 pub use Rattle.envy_map.specs.Writes

@@ -3,9 +3,9 @@ use Rattle.std.specs.Prelude.{◌≡◌, ◌≢◌, ℕ, ◌+◌, ◌*◌, ◌/�
 use Rattle.envy_base.specs.declared.fields.Place.TheVariants.{Row}
 use Rattle.envy_base.specs.declared.shape.Shape.{Shape}
 use Rattle.envy_map.specs.Fields.{Fields, place, undo}
-use Rattle.envy_layout.specs.PageRows.{page_kept_in}
-use Rattle.envy_layout.specs.Sound.{Names, owned_by}
-use Rattle.envy_layout.specs.Words.{kept_by}
+use Rattle.envy_soundness.specs.PageRows.{page_kept_in}
+use Rattle.envy_soundness.specs.Sound.{Names, owned_by}
+use Rattle.envy_soundness.specs.Words.{kept_by}
 use Rattle.envy_space.specs.Pool.{Pool, PoolAgrees}
 
 -- how many kept rows of segment s page p names

@@ -10,9 +10,9 @@ use Rattle.envy_base.specs.Shape.{IsShape, all_positions_of}
 use Rattle.envy_base.specs.State.{ones}
 use Rattle.envy_map.specs.Fields.{Fields, Chart, with_fields, place, undo}
 use Rattle.envy_map.specs.Writes.{with_back, with_fill, with_position}
-use Rattle.envy_layout.specs.RowKinds.{kept_in}
-use Rattle.envy_layout.specs.PageRows.{page_kept_in}
-use Rattle.envy_layout.specs.Sound.{Names, IsSpare}
+use Rattle.envy_soundness.specs.RowKinds.{kept_in}
+use Rattle.envy_soundness.specs.PageRows.{page_kept_in}
+use Rattle.envy_soundness.specs.Sound.{Names, IsSpare}
 use Rattle.envy_space.specs.Order.{IsOrder}
 use Rattle.envy_space.specs.Winners.{flag}
 

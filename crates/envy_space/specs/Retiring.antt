@@ -4,7 +4,7 @@ use Rattle.envy_base.specs.Shape.{all_positions_of, positions_of}
 use Rattle.envy_base.specs.declared.shape.Shape.{Shape}
 use Rattle.envy_map.specs.Fields.{Chart, with_fields}
 use Rattle.envy_map.specs.Writes.{with_fill, with_position}
-use Rattle.envy_layout.specs.Sound.{IsSpare}
+use Rattle.envy_soundness.specs.Sound.{IsSpare}
 use Rattle.envy_space.specs.Pool.{Pool, with_filled, with_segment_at}
 
 -- position k is in reserve, and no row of its segment has been claimed

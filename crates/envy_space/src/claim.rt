@@ -1,11 +1,11 @@
 ghost use Rattle.std.specs.Prelude.{◌≡◌, ◌-◌, ◌<◌, false, ℕ, IsTrue, Some, IfOk, OnOk, slice_index};
 ghost use Rattle.envy_base.specs.declared.fields.Job.TheVariants.{Switch};
 ghost use Rattle.envy_map.specs.Fields.{chart};
-ghost use Rattle.envy_layout.specs.Claims.{FillsRise};
-ghost use Rattle.envy_layout.specs.Jobs.{IsClear};
-ghost use Rattle.envy_layout.specs.Power.{power_of};
-ghost use Rattle.envy_layout.specs.Same.{Same};
-ghost use Rattle.envy_layout.specs.Sound.{IsSound};
+ghost use Rattle.envy_soundness.specs.Claims.{FillsRise};
+ghost use Rattle.envy_soundness.specs.Jobs.{IsClear};
+ghost use Rattle.envy_soundness.specs.Power.{power_of};
+ghost use Rattle.envy_soundness.specs.Same.{Same};
+ghost use Rattle.envy_soundness.specs.Sound.{IsSound};
 ghost use Rattle.envy_space.specs.Claiming.{ClaimsRow, MayClaim};
 ghost use Rattle.envy_space.specs.Pool.{PoolAgrees, Replaces};
 ghost use Rattle.envy_space.specs.Rising.{Leaves, Makes, claim_in};
@@ -13,7 +13,7 @@ ghost use Rattle.envy_base.specs.Shape.{positions_of};
 
 use crate::Space;
 use envy_base::{Board, Off};
-use envy_layout::{claim_back, raise_fill, replace_segment};
+use envy_soundness::{claim_back, raise_fill, replace_segment};
 
 impl Space {
     /// Claims the row at the fill of a segment for a page. The segment stands at a position, or is the

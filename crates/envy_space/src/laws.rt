@@ -4,7 +4,7 @@ ghost use Rattle.envy_base.specs.declared.fields.Place.TheVariants.{Row};
 ghost use Rattle.envy_base.specs.declared.shape.Shape.{Shape};
 ghost use Rattle.envy_map.specs.Fields.{Fields, place};
 ghost use Rattle.envy_map.specs.Writes.{with_place};
-ghost use Rattle.envy_layout.specs.Sound.{Sound};
+ghost use Rattle.envy_soundness.specs.Sound.{Sound};
 ghost use Rattle.envy_space.specs.Pool.{Pool, PoolAgrees, noted_kept, noted_dead};
 ghost use Rattle.envy_space.specs.Noting.{ChangesPage, NamesAsMany, NamesOneMore, NamesInPlace, Rowed, Leaving};
 

@@ -6,21 +6,21 @@
 #![tactic(auto)]
 
 mod bits;
+mod bounds;
 mod claim;
-mod finding;
+mod fill_laws;
 mod flags;
-mod following;
 mod laws;
 mod nodes;
 mod order;
 mod rebuild;
-mod retiring;
-mod rising;
+mod reserve;
+mod row_notes;
 mod scores;
 mod space;
 mod winners;
 
-pub use following::notes_follow_a_row;
+pub use fill_laws::{an_emptied_segment_is_erased, no_row_is_claimed_twice};
 pub use laws::{notes_follow_a_page, notes_follow_a_place};
-pub use rising::{an_emptied_segment_is_erased, no_row_is_claimed_twice};
+pub use row_notes::notes_follow_a_row;
 pub use space::Space;

@@ -1,8 +1,8 @@
 ghost use Rattle.std.specs.Prelude.{◌≡◌, ◌-◌, ◌<◌, ◌≤◌, ℕ, false, IsTrue, OnOk, OnErr, Some, IfOk, IfSome, ◌+◌, ◌*◌, replicate, slice_index};
 ghost use Rattle.envy_map.specs.Fields.{chart, place as place_of, undo as undo_of};
-ghost use Rattle.envy_layout.specs.Power.{power_of};
-ghost use Rattle.envy_layout.specs.Words.{kept};
-ghost use Rattle.envy_layout.specs.Sound.{IsSound};
+ghost use Rattle.envy_soundness.specs.Power.{power_of};
+ghost use Rattle.envy_soundness.specs.Words.{kept};
+ghost use Rattle.envy_soundness.specs.Sound.{IsSound};
 ghost use Rattle.envy_space.specs.Pool.{PoolAgrees, HasCounted, IsShadow, kept_in_first};
 
 use crate::Space;

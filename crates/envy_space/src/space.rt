@@ -1,8 +1,8 @@
 ghost use Rattle.std.specs.Prelude.{◌≡◌, ℕ, ◌+◌, ◌-◌, ◌*◌, ◌/◌, ◌<◌, ◌≤◌, [], IfOk, slice_index};
 ghost use Rattle.envy_base.specs.Shape.{IsShape, all_positions_of, positions_of};
 ghost use Rattle.envy_map.specs.Fields.{Chart};
-ghost use Rattle.envy_layout.specs.Formatting.{IsEmpty, aside};
-ghost use Rattle.envy_layout.specs.Sound.{IsPlaced, IsSpare};
+ghost use Rattle.envy_soundness.specs.Formatting.{IsEmpty, aside};
+ghost use Rattle.envy_soundness.specs.Sound.{IsPlaced, IsSpare};
 ghost use Rattle.envy_space.specs.Pool.{Pool, IsPool, PoolAgrees, empty_pool, free_rows, dead_rows, free_between, dead_at, with_filled, with_kept, noted_kept, noted_dead, StandsAt};
 ghost use Rattle.envy_space.specs.Winners.{Wins};
 

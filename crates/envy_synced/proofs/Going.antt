@@ -8,7 +8,7 @@ use Rattle.envy_base.specs.declared.board.Trouble.{Trouble}
 use Rattle.envy_base.specs.declared.board.Trouble.TheVariants.{Off as TroubleOff, Bad}
 use Rattle.envy_base.specs.declared.shape.Shape.{Shape}
 use Rattle.envy_base.specs.Counting.{up}
-use Rattle.envy_base.specs.State.{State, Puts, Programs, Erases, cut}
+use Rattle.envy_base.specs.State.{Notes, State, Puts, Programs, Erases, cut}
 use Rattle.envy_device.specs.Device.{LeavesOnly}
 use Rattle.envy_journal.specs.declared.log.Log.{Log}
 use Rattle.envy_journal.specs.declared.operation.Operation.{Operation}
@@ -20,7 +20,7 @@ use Rattle.envy_journal.specs.Log.{Begins}
 use Rattle.envy_journal.specs.Reading.{operations}
 use Rattle.envy_journal.specs.Steady.{IsSteady}
 use Rattle.envy_journal.proofs.Redone.{bads-never}
-use Rattle.envy_disk.specs.Disk.{Syncs, with_disk}
+use Rattle.envy_disk.specs.Disk.{Syncs, with_notes}
 use Rattle.envy_synced.specs.Disk.{Ends, IsKept}
 
 -- a journaled board is off though its board is on only where it has ended
@@ -72,9 +72,9 @@ module _ (K : Type 0) where
     erases_go n (Err Bad) (on, rows, only, is) k = absurd (never-bad d e a b was now (ap (λ (x : State). x.bads) is))
 
 -- the same operation on the board that tells
-module _ (plans given pulled lives : ℕ) (s t : State) where
+module _ (notes : Notes) (s t : State) where
   abbrev told : State → State
-  told x = with_disk x plans given pulled lives
+  told x = with_notes x notes
 
   -- what is told of syncs beside a board changes nothing about a put
   pub puts_told : (w v : ℕ) (r : Result Unit Off) → Puts s w v r t → Puts (told s) w v r (told t)
@@ -103,18 +103,19 @@ pub stands_now : {D : Type 0} (seen : D → List ℕ) (may_leave : D → List �
     → (file : List ℕ) → left_since log.device (moment log.device) file → StandsFor s.shape (kept seen log) file
 stands_now seen may_leave moment left_since last log s only is file left = crash_kept seen may_leave left_since last log s is file (is.sound.durable file (only file left))
 
-module _ {D : Type 0} (seen : D → List ℕ) (moment : D → ℕ) (left_since : D → ℕ → List ℕ → Type 0) where
+module _ {D : Type 0} (seen : D → List ℕ) (moment hindered : D → ℕ) (left_since : D → ℕ → List ℕ → Type 0) where
   -- just made or opened
-  pub kept_new : (log : Log D) (s : State) → ((file : List ℕ) → left_since log.device (moment log.device) file → StandsFor s.shape (kept seen log) file) → IsKept seen moment left_since log log log s
+  pub kept_new : (log : Log D) (s : State) → ((file : List ℕ) → left_since log.device (moment log.device) file → StandsFor s.shape (kept seen log) file) → IsKept seen moment hindered left_since log log log s
   kept_new log s stands = record {
     same = λ on. refl;
+    unhindered = λ on. refl;
     later = omega arith;
     earlier = omega arith;
     each = λ file left. ∣ inl (stands file left) ∣₁;
     since = λ file left. ∣ inl (stands file left) ∣₁;
   }
 
-  module _ (now was before : Log D) (s : State) (is : IsKept seen moment left_since now was before s) (on : IsTrue s.on) where
+  module _ (now was before : Log D) (s : State) (is : IsKept seen moment hindered left_since now was before s) (on : IsTrue s.on) where
     -- while power is on, only what the syncs brought to the disk
     lit : (t : State) (file : List ℕ) → t.shape ≡ s.shape → Ends s (kept seen was) file → Ends t (kept seen was) file
     lit t file shape (inl stands) = inl (subst (λ (sh : Shape). StandsFor sh (kept seen was) file) (sym shape) stands)
@@ -131,9 +132,10 @@ module _ {D : Type 0} (seen : D → List ℕ) (moment : D → ℕ) (left_since :
     earliest = omega (arith, is.later, is.earlier)
 
     -- an operation
-    operated : (new : Log D) (t : State) → t.shape ≡ s.shape → LeavesOnly moment left_since now.device new.device (StandsFor s.shape (kept seen now)) → (IsTrue t.on → kept seen new ≡ kept seen now) → IsKept seen moment left_since new was before t
-    operated new t shape only more = record {
+    operated : (new : Log D) (t : State) → t.shape ≡ s.shape → hindered new.device ≡ hindered now.device → LeavesOnly moment left_since now.device new.device (StandsFor s.shape (kept seen now)) → (IsTrue t.on → kept seen new ≡ kept seen now) → IsKept seen moment hindered left_since new was before t
+    operated new t shape still only more = record {
       same = λ up. more up ∙ is.same on;
+      unhindered = λ up. still ∙ is.unhindered on;
       later = omega (arith, is.later, only.later);
       earlier = is.earlier;
       each = λ file left. ⊎_elim (λ old. ∥∥₁_map (is.each file old) (λ e. lit t file shape e)) (λ stands. ∣ lit t file shape (inl (last file stands)) ∣₁) (only.before (moment was.device) file is.later left);
@@ -146,9 +148,10 @@ module _ {D : Type 0} (seen : D → List ℕ) (moment : D → ℕ) (left_since :
 
     -- a sync that succeeded
     pub synced : (new : Log D) → LeavesOnly moment left_since now.device new.device (λ file. StandsFor s.shape (kept seen now) file ⊎ StandsFor s.shape (kept seen new) file)
-        → ((file : List ℕ) → left_since new.device (moment new.device) file → StandsFor s.shape (kept seen new) file) → IsKept seen moment left_since new new was s
+        → ((file : List ℕ) → left_since new.device (moment new.device) file → StandsFor s.shape (kept seen new) file) → IsKept seen moment hindered left_since new new was s
     synced new only stands = record {
       same = λ up. refl;
+      unhindered = λ up. refl;
       later = omega arith;
       earlier = omega (arith, is.later, only.later);
       each = λ file left. ∣ inl (stands file left) ∣₁;
@@ -169,9 +172,10 @@ module _ {D : Type 0} (seen : D → List ℕ) (moment : D → ℕ) (left_since :
       either file (inr has) = inr (off, all_of file has)
 
       -- after a call that syncs nothing the last sync stays the last
-      pub unsynced : LeavesOnly moment left_since now.device new.device (λ file. StandsFor s.shape (kept seen now) file ⊎ IsFileOf s file) → IsKept seen moment left_since new was before t
+      pub unsynced : LeavesOnly moment left_since now.device new.device (λ file. StandsFor s.shape (kept seen now) file ⊎ IsFileOf s file) → IsKept seen moment hindered left_since new was before t
       unsynced only = record {
         same = λ up. absurd (false≢true (sym off ∙ up));
+        unhindered = λ up. absurd (false≢true (sym off ∙ up));
         later = omega (arith, is.later, only.later);
         earlier = is.earlier;
         each = λ file left. ⊎_elim (λ old. ∥∥₁_map (is.each file old) (λ e. lit t file shape e)) (λ p. ∣ either file p ∣₁) (only.before (moment was.device) file is.later left);
@@ -179,20 +183,20 @@ module _ {D : Type 0} (seen : D → List ℕ) (moment : D → ℕ) (left_since :
       }
 
   -- an operation on a board whose power may be off
-  pub went : (dead : Bool) (a : State) (now new was before : Log D) (t : State) → IsTrue a.on → IsKept seen moment left_since now was before (journal_state dead a) → Goes (kept seen new ≡ kept seen now) (journal_state dead a) t
-      → (dead ≡ false → LeavesOnly moment left_since now.device new.device (StandsFor a.shape (kept seen now))) → (IsTrue dead → new ≡ now) → IsKept seen moment left_since new was before t
-  went true a now new was before t on is goes only still =
-      subst (λ (l : Log D). IsKept seen moment left_since l was before t) (sym (still refl)) (subst (λ (x : State). IsKept seen moment left_since now was before x) (sym (goes.still refl)) is)
-  went false a now new was before t on is goes only still = operated now was before a is on new t goes.shape (only refl) goes.on
+  pub went : (dead : Bool) (a : State) (now new was before : Log D) (t : State) → IsTrue a.on → IsKept seen moment hindered left_since now was before (journal_state dead a) → Goes (kept seen new ≡ kept seen now) (journal_state dead a) t
+      → hindered new.device ≡ hindered now.device → (dead ≡ false → LeavesOnly moment left_since now.device new.device (StandsFor a.shape (kept seen now))) → (IsTrue dead → new ≡ now) → IsKept seen moment hindered left_since new was before t
+  went true a now new was before t on is goes same only still =
+      subst (λ (l : Log D). IsKept seen moment hindered left_since l was before t) (sym (still refl)) (subst (λ (x : State). IsKept seen moment hindered left_since now was before x) (sym (goes.still refl)) is)
+  went false a now new was before t on is goes same only still = operated now was before a is on new t goes.shape same (only refl) goes.on
 
   -- a sync that failed, on a board whose power may be off
-  pub failed : (dead : Bool) (a : State) (now new was before : Log D) → IsTrue a.on → IsKept seen moment left_since now was before (journal_state dead a)
+  pub failed : (dead : Bool) (a : State) (now new was before : Log D) → IsTrue a.on → IsKept seen moment hindered left_since now was before (journal_state dead a)
       → (dead ≡ false → LeavesOnly moment left_since now.device new.device (λ file. StandsFor a.shape (kept seen now) file ⊎ IsFileOf a file))
-      → (IsTrue dead → new ≡ now) → IsKept seen moment left_since new was before (cut a)
-  failed true a now new was before on is only still = subst (λ (l : Log D). IsKept seen moment left_since l was before (cut a)) (sym (still refl)) is
+      → (IsTrue dead → new ≡ now) → IsKept seen moment hindered left_since new was before (cut a)
+  failed true a now new was before on is only still = subst (λ (l : Log D). IsKept seen moment hindered left_since l was before (cut a)) (sym (still refl)) is
   failed false a now new was before on is only still = unsynced now was before a is on new (cut a) refl refl refl (only refl)
 
 -- a sync that fails cuts power and leaves what was told
-pub fails_told : (T : Type 0) (plans given pulled lives : ℕ) (dead : Bool) (a : State) (off : Off) → IsTrue a.on → Syncs {T = T} (with_disk (journal_state dead a) plans given pulled lives) (Err off) (with_disk (cut a) plans given pulled lives)
-fails_told T plans given pulled lives true a off on = inl (refl, refl)
-fails_told T plans given pulled lives false a off on = inr (on, refl)
+pub fails_told : (T : Type 0) (notes : Notes) (dead : Bool) (a : State) (off : Off) → IsTrue a.on → Syncs {T = T} (with_notes (journal_state dead a) notes) (Err off) (with_notes (cut a) notes)
+fails_told T notes true a off on = inl (refl, refl)
+fails_told T notes false a off on = inr (on, refl)

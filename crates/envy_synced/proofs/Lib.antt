@@ -1,4 +1,4 @@
 pub mod Going
 pub mod Lightened
-pub mod Numbers
 pub mod Telling
+pub mod Reopened

@@ -1,19 +1,19 @@
 -- An operation of a journaled board, and what isn't synced made anew behind it.
 use Rattle.std.specs.Prelude.{IsTrue}
-use Rattle.std.proofs.Common.{◌≡◌, ◌∙◌, inl, inr, ℕ, ◌<◌, Bool, true, false, List, [], ◌∷◌, ◌++◌, length, get_or, Ok, Err, refl, sym, ap, subst, arith, length-append}
+use Rattle.std.proofs.Common.{◌≡◌, ◌∙◌, inl, inr, ℕ, ◌<◌, Bool, true, false, List, [], ◌∷◌, ◌++◌, length, Ok, Err, refl, sym, ap, subst, arith, length-append}
 use Rattle.std.proofs.lemmas.Bool.{false≢true}
 use Rattle.envy_base.specs.declared.board.Off.{Off}
 use Rattle.envy_base.specs.declared.board.Trouble.{Trouble}
 use Rattle.envy_base.specs.declared.board.Trouble.TheVariants.{Off as TroubleOff, Bad}
 use Rattle.envy_base.specs.declared.shape.Shape.{Shape}
-use Rattle.envy_base.specs.State.{State, IsBoard, IsPage, Puts, Programs, Erases, cut}
+use Rattle.envy_base.specs.State.{State, IsBoard, Puts, Programs, Erases, cut}
 use Rattle.envy_device.specs.Device.{LeavesOnly}
 use Rattle.envy_journal.specs.declared.operation.Operation.{Operation}
 use Rattle.envy_journal.specs.Head.{StandsFor}
 use Rattle.envy_journal.specs.Journal.{journal_state}
 use Rattle.envy_journal.specs.Steady.{IsSteady}
 use Rattle.envy_journal.proofs.Moments.{joined}
-use Rattle.envy_journal.proofs.Redone.{program-unlogged}
+use Rattle.envy_journal.proofs.Redone.{erase-unlogged, program-unlogged}
 use Rattle.envy_synced.proofs.Going.{journal_off, never-bad}
 
 -- a journaled board whose power is on hasn't ended
@@ -73,18 +73,7 @@ module _ (s t : State) where
     program_cut board q page lt did = subst (λ (x : State). Programs s q page (Err TroubleOff) x) (sym is) (program-unlogged false s t q page refl board lt did)
 
     pub erase_cut : IsBoard t → (n : ℕ) → Erases s n (Ok tt) t → Erases s n (Err TroubleOff) u
-    erase_cut board n (on, rows, only, now) =
-        let flash : t.flash ≡ rows = ap (λ (x : State). x.flash) now in
-        inr (
-          on,
-          rows,
-          record {
-            long = only.long;
-            others = only.others;
-            inside = λ q lt here. subst (λ (l : List (List ℕ)). IsPage (get_or l q [])) flash (board.pages q (omega (arith, lt, ap length flash, only.long)));
-          },
-          is ∙ ap cut now,
-        )
+    erase_cut board n did = subst (λ (x : State). Erases s n (Err TroubleOff) x) (sym is) (erase-unlogged false s t n refl board did)
 
 -- a crash of the one call or of the other
 pub left_both : {D : Type 0} (moment : D → ℕ) (left_since : D → ℕ → List ℕ → Type 0) (old mid new : D) (sh sh' : Shape) (p p' : List Operation) → sh' ≡ sh → p' ≡ p → LeavesOnly moment left_since old mid (StandsFor sh p) → LeavesOnly moment left_since mid new (StandsFor sh' p')

@@ -2,31 +2,31 @@ ghost use Rattle.std.specs.Prelude.{◌≡◌, ◌⊎◌, ◌<◌, ◌≤◌, �
 ghost use Rattle.std.proofs.Props.{props};
 ghost use Rattle.envy_base.specs.State.{Puts, Programs, Erases};
 ghost use Rattle.envy_map.specs.Fields.{Chart, chart};
-ghost use Rattle.envy_disk.specs.declared.on_disk.Compaction.TheVariants.{Done, Appended};
+ghost use Rattle.envy_disk.specs.declared.durable_board.Compaction.TheVariants.{Done, Appended};
 ghost use Rattle.envy_journal.specs.Condensed.{spilled};
 ghost use Rattle.envy_journal.specs.Head.{StandsFor};
 ghost use Rattle.envy_journal.specs.Journal.{journal_state, kept, done};
 ghost use Rattle.envy_journal.specs.Log.{HasEnded};
 ghost use Rattle.envy_journal.specs.Reading.{operations};
 ghost use Rattle.envy_journal.specs.Snapshot.{limit_of};
-ghost use Rattle.envy_synced.specs.Disk.{IsKept, IsLast, IsBefore, IsCompact, IsHindered, IsSynced, Reopens, disk_state};
+ghost use Rattle.envy_synced.specs.Disk.{CrashLeaves, IsKept, IsCompact, IsHindered, IsSynced, disk_state};
 
 use crate::light::{erase, program, put};
 use envy_base::{Board, Off, Page, Shape, Trouble};
-use envy_device::{Device, Place};
-use envy_disk::{Compaction, OnDisk};
+use envy_device::{Device, Replaceable};
+use envy_disk::{Compaction, Durable};
 use envy_journal::{Journaled, Steady};
 use std::mem;
 use std::snapshot::Snapshot;
 
-/// A journaled board that tells what is on the disk.
+/// A journaled board whose notes tell what is on the disk.
 #[derive(Drop)]
 pub struct Kept<B: Steady, D: Device> {
     journal: Journaled<B, D>,
     // as it was behind the last sync that succeeded, and behind the one before
     synced: Snapshot<Journaled<B, D>>,
     before: Snapshot<Journaled<B, D>>,
-    ghost kept: { IsKept D.seen D.moment D.left_since journal.log synced.value.log before.value.log (journal_state journal.dead (B.state journal.board)) } by { Prim.hlevel props },
+    ghost kept: { IsKept D.seen D.moment D.hindered D.left_since journal.log synced.value.log before.value.log (journal_state journal.dead (B.state journal.board)) } by { Prim.hlevel props },
     // the file has no more of what isn't synced than a limit
     ghost light: { journal.dead ≡ false → spilled journal.log ≤ limit_of (B.state journal.board).shape },
 }
@@ -38,8 +38,7 @@ impl<B: Steady, D: Device> Kept<B, D> {
         requires rests { done D.seen journal.log ≡ kept D.seen journal.log }
         ensures journal { result.journal ≡ journal }
         ensures synced { IsSynced (chart (⟦<Kept<B, D> as Board>⟧.state result)) }
-        ensures reads { (synced : IsSynced (chart (⟦<Kept<B, D> as Board>⟧.state result)))
-            × (operations synced.bytes ≡ kept D.seen journal.log) }
+        ensures reads { operations (⟦<Kept<B, D> as Board>⟧.state result).notes.last.bytes ≡ kept D.seen journal.log }
     {
         let synced = Snapshot::of(&journal);
         let before = Snapshot::of(&journal);
@@ -50,35 +49,14 @@ impl<B: Steady, D: Device> Kept<B, D> {
         }
     }
 
-    /// The device. A crash of the machine at any moment since the last sync that succeeded leaves a file that opens as
-    /// the board was behind it, with the operations that were on the disk then, or, where power is off, as it is now: then a
-    /// later sync may have done its work and failed.
-    /// One since the sync before leaves what that one brought to the disk, or one of these. While power is on, the file has
-    /// no more of what isn't synced than a limit.
+    /// The device, and what a crash of the machine has left of its file. Where power is off, a later sync may have done its
+    /// work and failed. While power is on, the file has no more of what isn't synced than a limit.
     pub fn device(&self) -> &D
         ensures here { result.now ≡ self.now.journal.log.device }
         ensures light { IsTrue (⟦<Kept<B, D> as Board>⟧.state self.now).on
             → spilled self.now.journal.log ≤ limit_of (⟦<Kept<B, D> as Board>⟧.state self.now).shape }
-        ensures time { (⟦<Kept<B, D> as Board>⟧.state self.now).plans ≤ D.moment result.now }
-        ensures last { (was : Chart) → IsSynced was → IsLast was (chart (⟦<Kept<B, D> as Board>⟧.state self.now))
-            → (file : List ℕ) → D.left_since result.now was.plans file
-            → ∥ Reopens was file
-            ⊎ (((⟦<Kept<B, D> as Board>⟧.state self.now).on ≡ false)
-            × Reopens (chart (⟦<Kept<B, D> as Board>⟧.state self.now)) file) ∥₁ }
-        ensures reads { (was : Chart) (synced : IsSynced was)
-            → IsLast was (chart (⟦<Kept<B, D> as Board>⟧.state self.now))
-            → (file : List ℕ) → D.left_since result.now was.plans file
-            → ∥ StandsFor was.shape (operations synced.bytes) file
-            ⊎ (((⟦<Kept<B, D> as Board>⟧.state self.now).on ≡ false)
-            × Reopens (chart (⟦<Kept<B, D> as Board>⟧.state self.now)) file) ∥₁ }
-        ensures one_before { (first was : Chart) → IsSynced first → IsSynced was
-            → IsBefore first (chart (⟦<Kept<B, D> as Board>⟧.state self.now))
-            → IsLast was (chart (⟦<Kept<B, D> as Board>⟧.state self.now))
-            → (file : List ℕ) → D.left_since result.now first.plans file
-            → ∥ Reopens first file
-            ⊎ (Reopens was file
-            ⊎ (((⟦<Kept<B, D> as Board>⟧.state self.now).on ≡ false)
-            × Reopens (chart (⟦<Kept<B, D> as Board>⟧.state self.now)) file)) ∥₁ }
+        ensures leaves { CrashLeaves (D.left_since result.now) (D.moment result.now)
+            (chart (⟦<Kept<B, D> as Board>⟧.state self.now)) }
     {
         self.journal.device()
     }
@@ -98,12 +76,12 @@ impl<B: Steady, D: Device> Kept<B, D> {
 }
 
 impl<B: Steady, D: Device> Board for Kept<B, D> {
-    ghost use Rattle.envy_synced.specs.Disk.{lawful_disk};
+    ghost use Rattle.envy_synced.specs.Disk.{CrashLeaves, IsKept, IsCompact, IsHindered, IsSynced, disk_state};
     ghost use Rattle.envy_journal.specs.Journal.{lawful_lem};
 
     ghost state = { λ k. disk_state D.seen D.moment D.hindered k.synced.value.log k.before.value.log (journal_state k.journal.dead (B.state k.journal.board)) };
 
-    ghost lawful = { λ k. lawful_disk _ _ _ _ _ (lawful_lem k.journal.dead (B.state k.journal.board) (B.lawful k.journal.board)) };
+    ghost lawful = { λ k. lawful_disk _ _ (lawful_lem k.journal.dead (B.state k.journal.board) (B.lawful k.journal.board)) };
 
     fn shape(&self) -> Shape {
         self.journal.shape()
@@ -134,7 +112,7 @@ impl<B: Steady, D: Device> Board for Kept<B, D> {
     }
 }
 
-impl<B: Steady, D: Place> OnDisk for Kept<B, D> {
+impl<B: Steady, D: Replaceable> Durable for Kept<B, D> {
     ghost is_synced = { IsSynced };
 
     ghost is_compact = { IsCompact };

@@ -25,6 +25,7 @@ fn lighten<B: Steady, D: Device>(journal: &mut Journaled<B, D>) -> Result<(), Of
     ensures any_moment { journal.old.dead ≡ false
         → LeavesOnly D.moment D.left_since journal.old.log.device journal.new.log.device
         (StandsFor (B.state journal.old.board).shape (kept D.seen journal.old.log)) }
+    ensures hindered { D.hindered journal.new.log.device ≡ D.hindered journal.old.log.device }
     ensures still { IsTrue journal.old.dead → journal.new.log ≡ journal.old.log }
 {
     match journal.condense() {
@@ -47,6 +48,7 @@ pub(crate) fn program<B: Steady, D: Device>(
     ensures any_moment { journal.old.dead ≡ false
         → LeavesOnly D.moment D.left_since journal.old.log.device journal.new.log.device
         (StandsFor (B.state journal.old.board).shape (kept D.seen journal.old.log)) }
+    ensures hindered { D.hindered journal.new.log.device ≡ D.hindered journal.old.log.device }
     ensures still { IsTrue journal.old.dead → journal.new.log ≡ journal.old.log }
 {
     journal.program(row, page)?;
@@ -69,6 +71,7 @@ pub(crate) fn erase<B: Steady, D: Device>(
     ensures any_moment { journal.old.dead ≡ false
         → LeavesOnly D.moment D.left_since journal.old.log.device journal.new.log.device
         (StandsFor (B.state journal.old.board).shape (kept D.seen journal.old.log)) }
+    ensures hindered { D.hindered journal.new.log.device ≡ D.hindered journal.old.log.device }
     ensures still { IsTrue journal.old.dead → journal.new.log ≡ journal.old.log }
 {
     journal.erase(segment)?;
@@ -92,6 +95,7 @@ pub(crate) fn put<B: Steady, D: Device>(
     ensures any_moment { journal.old.dead ≡ false
         → LeavesOnly D.moment D.left_since journal.old.log.device journal.new.log.device
         (StandsFor (B.state journal.old.board).shape (kept D.seen journal.old.log)) }
+    ensures hindered { D.hindered journal.new.log.device ≡ D.hindered journal.old.log.device }
     ensures still { IsTrue journal.old.dead → journal.new.log ≡ journal.old.log }
 {
     journal.put(w, v)?;

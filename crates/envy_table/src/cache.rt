@@ -1,6 +1,6 @@
 ghost use Rattle.std.specs.Prelude.{◌≡◌, ℕ, ◌<◌, ◌≤◌, false, IsTrue, List, length, Option, None, Some, IfOk, IfNone, IfSome, OnOk, OnErr, MatchResult, slice_set};
 ghost use Rattle.envy_base.specs.declared.fields.Place.{Place};
-ghost use Rattle.envy_layout.specs.Sound.{IsSound};
+ghost use Rattle.envy_soundness.specs.Sound.{IsSound};
 ghost use Rattle.envy_map.specs.Fields.{chart, place as place_of};
 ghost use Rattle.envy_map.specs.Writes.{Gives};
 ghost use Rattle.envy_table.specs.Agreement.{AreCurrent};

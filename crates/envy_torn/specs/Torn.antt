@@ -4,7 +4,7 @@ use Rattle.std.specs.Global.{Vec}
 use Rattle.std.proofs.Common.{subst, sym, arith}
 use Rattle.std.proofs.lemmas.List.{take_all}
 use Rattle.envy_device.specs.declared.device.DeviceFailed.{DeviceFailed}
-use Rattle.envy_record.specs.Calls.{hindrances}
+use Rattle.envy_device.specs.Calls.{hindrances}
 use Rattle.envy_torn.specs.declared.call.Call.{Call}
 use Rattle.envy_torn.specs.declared.call.Call.TheVariants.{BadWrite}
 use Rattle.envy_torn.specs.declared.torn.TornFile.{TornFile}

@@ -6,8 +6,7 @@ ghost use Rattle.envy_torn.specs.Calls.{seen_after, written};
 use crate::Dice;
 use crate::call::{Call, add_call, follow};
 use crate::drawn::{cut_some, mix, tear, write_anew};
-use envy_device::{Device, DeviceFailed, Place, ReplaceError, SecondFailed};
-use envy_record::{Made, Record};
+use envy_device::{Device, DeviceFailed, Made, Record, ReplaceError, Replaceable, SecondFailed};
 use std::alloc::{AllocError, Global};
 use std::mem;
 
@@ -333,7 +332,7 @@ impl Device for TornFile {
     }
 }
 
-impl Place for TornFile {
+impl Replaceable for TornFile {
     ghost use Rattle.envy_torn.specs.Torn.{file_second};
 
     ghost second = { file_second };

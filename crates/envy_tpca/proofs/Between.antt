@@ -2,12 +2,12 @@
 use Rattle.std.proofs.Common.{◌≡◌, ◌⊎◌, inl, inr, ℕ, ◌<◌, ◌+◌, false, List, [], ◌∷◌, length, Result, Ok, Err, refl, sym, ◌∙◌, ap, subst, arith}
 use Rattle.std.specs.Prelude.{◌++◌, slice_index, IsErr, IsErrAnd}
 use Rattle.std.proofs.lemmas.List.{length_push}
-use Rattle.envy_base.specs.Array.{Array, put_back, undone}
-use Rattle.envy_base.specs.Step.{Tick, Done, Lost}
+use Rattle.envy_array.specs.Array.{Array, put_back, undone}
+use Rattle.envy_array.specs.Step.{Tick, Done, Lost}
 use Rattle.envy_base.specs.declared.shape.Shape.{Shape}
-use Rattle.envy_layout.specs.Same.{Counted, Kept}
-use Rattle.envy_layout.specs.Stands.{Stands, Steps, IsLost, Fails}
-use Rattle.envy_layout.specs.Words.{durable}
+use Rattle.envy_soundness.specs.Same.{Counted, Kept}
+use Rattle.envy_meaning.specs.Stands.{Stands, Steps, IsLost, Fails}
+use Rattle.envy_soundness.specs.Words.{durable}
 use Rattle.envy_map.specs.Fields.{Chart}
 use Rattle.envy_memory.specs.Calls.{IsCut, HasFailed, fresh, lit}
 use Rattle.envy_memory.specs.Picture.{Picture, counts_of}

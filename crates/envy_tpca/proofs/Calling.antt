@@ -4,11 +4,11 @@ use Rattle.std.specs.Prelude.{◌%◌, ◌^◌, slice_index, slice_set, ℤ, pos
 use Rattle.std.specs.Int.{cast_unsigned, cast_signed, int_wrap}
 use Rattle.std.proofs.Common.{w64}
 use Rattle.std.proofs.lemmas.Int.{to_z-of_z, wrapping_add_onto, int_wrap_fits}
-use Rattle.envy_base.specs.Array.{Array, owner, page_of}
+use Rattle.envy_array.specs.Array.{Array, owner, page_of}
 use Rattle.envy_base.specs.declared.shape.Shape.{Shape}
-use Rattle.envy_base.specs.Step.{Answer, Load, Begin, Put, Commit, Word, Done, Started, Range, Held, Closed as ClosedAnswer, Full, Busy, Step, Lost}
-use Rattle.envy_layout.specs.Stands.{Stands, Steps}
-use Rattle.envy_layout.specs.Words.{durable}
+use Rattle.envy_array.specs.Step.{Answer, Load, Begin, Put, Commit, Word, Done, Started, Range, Held, Closed as ClosedAnswer, Full, Busy, Step, Lost}
+use Rattle.envy_meaning.specs.Stands.{Stands, Steps}
+use Rattle.envy_soundness.specs.Words.{durable}
 use Rattle.envy_memory.specs.Calls.{Loads, Begins, Puts, Commits, IsCut, HasFailed, fresh}
 use Rattle.envy_memory.specs.Picture.{Picture}
 use Rattle.envy_memory.specs.declared.faults.LoadFault.{LoadFault}

@@ -5,7 +5,7 @@ use Rattle.std.specs.Prelude.{IsErr, IsErrAnd, ◌%◌, ◌^◌, slice_index, sl
 use Rattle.std.proofs.Common.{w64}
 use Rattle.std.proofs.lemmas.Int.{fits_signed_from_abs, to_z-of_z}
 use Rattle.std.proofs.lemmas.List.{get_or-set_other, length-set}
-use Rattle.envy_base.specs.Array.{page_of, put_back}
+use Rattle.envy_array.specs.Array.{page_of, put_back}
 use Rattle.envy_tpca.specs.declared.places.Places.{Places}
 use Rattle.envy_tpca.specs.declared.places.Spots.{Spots}
 use Rattle.envy_tpca.specs.declared.transfer.Transfer.{Transfer}

@@ -5,8 +5,8 @@ use Rattle.std.proofs.Math.IntN.{+ℤ_comm, +ℤ_assoc}
 use Rattle.std.proofs.lemmas.Bool.{cases_eq, ne_eqb, eq-eqb, cases_lt}
 use Rattle.std.proofs.lemmas.List.{get_or-set_same, get_or-set_other, length-set, length_push, get_or_append_left}
 use Rattle.std.proofs.Math.Seq.{get_or-append_seam}
-use Rattle.envy_base.specs.Array.{Saved, put_back}
-use Rattle.envy_base.proofs.Undoing.{length-put_back}
+use Rattle.envy_array.specs.Array.{Saved, put_back}
+use Rattle.envy_array.proofs.Undoing.{length-put_back}
 use Rattle.envy_tpca.specs.declared.transfer.Transfer.{Transfer}
 use Rattle.envy_tpca.specs.declared.places.Places.{Places}
 use Rattle.envy_tpca.specs.Tpc.{as_word, deltas_of, branch_at, teller_at, account_at, row_at, IsRow, TpcAt}

@@ -5,11 +5,11 @@ use Rattle.std.proofs.Common.{w64}
 use Rattle.std.proofs.lemmas.Int.{to_z-of_z}
 use Rattle.std.specs.Int.{cast_signed, cast_unsigned}
 use Rattle.std.specs.List.{All}
-use Rattle.envy_base.specs.Area.{Fits}
-use Rattle.envy_base.specs.declared.area.Area.{Area}
-use Rattle.envy_base.specs.declared.counts.Counts.{Counts}
+use Rattle.envy_array.specs.Area.{Fits}
+use Rattle.envy_array.specs.declared.area.Area.{Area}
+use Rattle.envy_array.specs.declared.counts.Counts.{Counts}
 use Rattle.envy_base.specs.declared.shape.Shape.{Shape}
-use Rattle.envy_layout.specs.Words.{durable}
+use Rattle.envy_soundness.specs.Words.{durable}
 use Rattle.envy_memory.specs.Picture.{Picture, counts_of}
 use Rattle.envy_tpca.specs.declared.places.Places.{Places}
 use Rattle.envy_tpca.specs.Driving.{IsLoadOf, HasCounted, IsToldBefore, plans_in}

@@ -3,9 +3,9 @@ use Rattle.std.proofs.Common.{◌≡◌, ℕ, ◌<◌, ◌≤◌, ◌+◌, Bool,
 use Rattle.std.specs.Prelude.{◌^◌, ◌-◌, OnOk, slice_index}
 use Rattle.envy_base.proofs.Counting.{up-least, up-below}
 use Rattle.envy_base.specs.Counting.{up}
-use Rattle.envy_base.specs.Step.{Load, Word}
-use Rattle.envy_layout.specs.Stands.{Stands, Steps}
-use Rattle.envy_layout.specs.Words.{durable}
+use Rattle.envy_array.specs.Step.{Load, Word}
+use Rattle.envy_meaning.specs.Stands.{Stands, Steps}
+use Rattle.envy_soundness.specs.Words.{durable}
 use Rattle.envy_map.specs.Fields.{Chart}
 use Rattle.envy_memory.specs.Calls.{Loads, fresh}
 use Rattle.envy_memory.specs.Picture.{Picture}

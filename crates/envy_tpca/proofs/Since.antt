@@ -3,9 +3,9 @@ use Rattle.std.proofs.Common.{◌≡◌, ◌⊎◌, inl, inr, ℕ, ◌+◌, ◌-
 use Rattle.std.proofs.lemmas.Bool.{cases_lt}
 use Rattle.envy_base.specs.Counting.{up}
 use Rattle.envy_base.specs.declared.faults.PlannedFault.{PlannedFault}
-use Rattle.envy_flush.proofs.CountLemmas.{Tallies-trans}
-use Rattle.envy_flush.specs.Counts.{Tallies}
-use Rattle.envy_layout.specs.Same.{Counted, Grows, Kept}
+use Rattle.envy_engine.proofs.CountLemmas.{Tallies-trans}
+use Rattle.envy_engine.specs.Counts.{Tallies}
+use Rattle.envy_soundness.specs.Same.{Counted, Grows, Kept}
 use Rattle.envy_memory.proofs.Counted.{Tallies-stay, begun-stay}
 use Rattle.envy_memory.specs.Calls.{Works, lit, planned}
 use Rattle.envy_memory.specs.Effects.{TicksOnce}

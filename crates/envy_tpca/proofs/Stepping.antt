@@ -1,12 +1,12 @@
 -- One transfer more of a load that is driven.
 use Rattle.std.proofs.Common.{◌≡◌, ◌⊎◌, inl, inr, ℕ, zero, suc, ◌<◌, ◌≤◌, ◌+◌, ◌*◌, List, [], ◌∷◌, Some, Result, Ok, Err, refl, sym, ◌∙◌, ap, subst, arith}
 use Rattle.std.specs.Prelude.{◌++◌, ◌%◌, ◌/◌, ◌^◌, ℤ, if◌then◌else◌, replicate, IsErr, IsErrAnd}
-use Rattle.envy_base.specs.Area.{Fits}
-use Rattle.envy_base.specs.Array.{put_back}
-use Rattle.envy_base.specs.declared.area.Area.{Area}
+use Rattle.envy_array.specs.Area.{Fits}
+use Rattle.envy_array.specs.Array.{put_back}
+use Rattle.envy_array.specs.declared.area.Area.{Area}
 use Rattle.envy_base.specs.declared.shape.Shape.{Shape}
-use Rattle.envy_layout.specs.Stands.{Stands}
-use Rattle.envy_layout.specs.Words.{durable}
+use Rattle.envy_meaning.specs.Stands.{Stands}
+use Rattle.envy_soundness.specs.Words.{durable}
 use Rattle.envy_memory.specs.Calls.{fresh}
 use Rattle.envy_memory.specs.Picture.{Picture}
 use Rattle.envy_tpca.specs.declared.fault.DriveFault.{DriveFault}

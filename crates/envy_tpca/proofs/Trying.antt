@@ -1,11 +1,11 @@
 -- One transaction on the plain array.
 use Rattle.std.proofs.Common.{◌≡◌, ◌≢◌, ◌⊎◌, inl, inr, ℕ, suc, ◌<◌, ◌≤◌, ◌+◌, false, cond, List, [], ◌∷◌, length, get_or, set, replicate, Option, None, Some, is_some, refl, sym, ◌∙◌, ap, subst, arith}
 use Rattle.std.specs.Prelude.{slice_index, slice_set}
-use Rattle.envy_base.specs.Array.{Array, Saved, IsArray, page_of, slot_of, owns, owner, owned, is_closed, undo_all, undone, with_slot, stored, put, saving}
-use Rattle.envy_base.specs.Step.{Answer, Begin, Put, Commit, Done, Started, Range, Held, Closed as ClosedAnswer, Full, Busy, Step, Lost}
-use Rattle.envy_base.proofs.Owning.{position-None, owner-Some, owner-nobody, owned-none, slot_cases, slot-within, owner-put_here, owned-put}
-use Rattle.envy_base.proofs.Keeping.{first-closed, step-keeps}
-use Rattle.envy_base.proofs.Undoing.{undone-begun, undone-put, has}
+use Rattle.envy_array.specs.Array.{Array, Saved, IsArray, page_of, slot_of, owns, owner, owned, is_closed, undo_all, undone, with_slot, stored, put, saving}
+use Rattle.envy_array.specs.Step.{Answer, Begin, Put, Commit, Done, Started, Range, Held, Closed as ClosedAnswer, Full, Busy, Step, Lost}
+use Rattle.envy_array.proofs.Owning.{position-None, owner-Some, owner-nobody, owned-none, slot_cases, slot-within, owner-put_here, owned-put}
+use Rattle.envy_array.proofs.Keeping.{first-closed, step-keeps}
+use Rattle.envy_array.proofs.Undoing.{undone-begun, undone-put, has}
 use Rattle.envy_memory.proofs.Facts.{none-open}
 use Rattle.envy_memory.specs.Calls.{fresh}
 use Rattle.envy_tpca.specs.Trying.{Open}

@@ -2,8 +2,8 @@
 use Rattle.std.proofs.Common.{◌≡◌, ℕ, ◌+◌, ◌-◌, ◌*◌, List, Result, Ok, Err, ap, subst, arith}
 use Rattle.std.specs.Prelude.{OnOk}
 use Rattle.envy_map.specs.Fields.{Chart}
-use Rattle.envy_base.specs.declared.area.Area.{Area}
-use Rattle.envy_base.specs.declared.counts.Counts.{Counts}
+use Rattle.envy_array.specs.declared.area.Area.{Area}
+use Rattle.envy_array.specs.declared.counts.Counts.{Counts}
 use Rattle.envy_memory.specs.Picture.{Picture, counts_of}
 use Rattle.envy_tpca.specs.declared.fault.DriveFault.{DriveFault}
 use Rattle.envy_tpca.specs.Driving.{CountsAccesses}

@@ -2,9 +2,9 @@
 use Rattle.std.specs.Prelude.{◌≡◌, ℕ, zero, suc, ◌+◌, ◌*◌, ◌%◌, ◌-◌, ◌^◌, ◌<◌, ◌≤◌, ◌==◌, ◌&&◌, not, Bool, Option, Some, slice_index, if◌then◌else◌}
 use Rattle.envy_base.specs.declared.faults.PlannedFault.{PlannedFault}
 use Rattle.envy_base.specs.declared.faults.PlannedFault.TheVariants.{Cut}
-use Rattle.envy_base.specs.declared.area.Area.{Area}
-use Rattle.envy_base.specs.declared.counts.Counts.{Counts}
-use Rattle.envy_layout.specs.Words.{durable}
+use Rattle.envy_array.specs.declared.area.Area.{Area}
+use Rattle.envy_array.specs.declared.counts.Counts.{Counts}
+use Rattle.envy_soundness.specs.Words.{durable}
 use Rattle.envy_memory.specs.Picture.{Picture, counts_of}
 use Rattle.envy_tpca.specs.declared.sums.Sums.{Sums}
 use Rattle.envy_tpca.specs.Load.{Draws, first}

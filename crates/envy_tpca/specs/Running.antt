@@ -1,8 +1,8 @@
 -- All transfers of a load, one after another.
 use Rattle.std.specs.Prelude.{◌≡◌, ℕ, ◌^◌, ◌≤◌, Result, Ok, Err, ℤ}
-use Rattle.envy_base.specs.Area.{Fits}
-use Rattle.envy_base.specs.declared.area.Area.{Area}
-use Rattle.envy_layout.specs.Words.{durable}
+use Rattle.envy_array.specs.Area.{Fits}
+use Rattle.envy_array.specs.declared.area.Area.{Area}
+use Rattle.envy_soundness.specs.Words.{durable}
 use Rattle.envy_memory.specs.Picture.{Picture}
 use Rattle.envy_tpca.specs.declared.fault.DriveFault.{DriveFault}
 use Rattle.envy_tpca.specs.declared.places.Places.{Places}

@@ -1,6 +1,6 @@
 -- What a memory keeps while a load is driven, and what it counts.
 use Rattle.std.specs.Prelude.{◌≡◌, ℕ, ◌+◌, ◌-◌, ◌^◌, ◌<◌, ◌≤◌}
-use Rattle.envy_flush.specs.Counts.{Tallies}
+use Rattle.envy_engine.specs.Counts.{Tallies}
 use Rattle.envy_memory.specs.Picture.{Picture}
 
 -- a count rose, or stood at the top

@@ -1,7 +1,7 @@
 -- The words of the load after a list of transfers.
 use Rattle.std.specs.Prelude.{◌≡◌, ℕ, ◌+◌, ◌-◌, ◌*◌, ◌^◌, ◌<◌, ◌≤◌, ◌==◌, List, [], ◌∷◌, length, slice_index, get_or, ℤ, pos, negsuc, ◌+ℤ◌, if◌then◌else◌}
-use Rattle.envy_base.specs.Area.{history_at}
-use Rattle.envy_base.specs.declared.area.Area.{Area}
+use Rattle.envy_array.specs.Area.{history_at}
+use Rattle.envy_array.specs.declared.area.Area.{Area}
 use Rattle.envy_tpca.specs.Load.{Draws, first}
 use Rattle.envy_tpca.specs.declared.places.Places.{Places}
 use Rattle.envy_tpca.specs.declared.transfer.Transfer.{Transfer}

@@ -4,7 +4,7 @@ use Rattle.std.specs.List.{All}
 use Rattle.envy_tpca.specs.declared.places.Places.{Places}
 use Rattle.envy_tpca.specs.declared.places.Spots.{Spots}
 use Rattle.envy_tpca.specs.declared.transfer.Transfer.{Transfer}
-use Rattle.envy_base.specs.Array.{Saved}
+use Rattle.envy_array.specs.Array.{Saved}
 use Rattle.envy_tpca.specs.Tpc.{TpcAt, as_word, deltas_of, account_at, teller_at, branch_at, row_at}
 
 -- each delta lies within a million

@@ -1,8 +1,8 @@
 -- A memory before, within and after one transaction, while no other slot is open.
 use Rattle.std.specs.Prelude.{◌≡◌, ◌≢◌, ◌⊎◌, ℕ, ◌+◌, ◌<◌, ◌≤◌, false, IsTrue, List, None, Some, Result, Ok, Err, slice_index}
-use Rattle.envy_base.specs.Array.{Array, Saved, IsArray, slot_of, owner, owned, undone}
-use Rattle.envy_layout.specs.Stands.{Stands}
-use Rattle.envy_layout.specs.Words.{durable}
+use Rattle.envy_array.specs.Array.{Array, Saved, IsArray, slot_of, owner, owned, undone}
+use Rattle.envy_meaning.specs.Stands.{Stands}
+use Rattle.envy_soundness.specs.Words.{durable}
 use Rattle.envy_memory.specs.Calls.{fresh}
 use Rattle.envy_memory.specs.Picture.{Picture}
 use Rattle.envy_tpca.specs.declared.fault.DriveFault.{DriveFault}

@@ -2,7 +2,7 @@
 
 ghost use Rattle.std.specs.Prelude.{◌≡◌, ℕ, ◌<◌, ◌+ℤ◌, ℤ, List, OnOk, length, slice_index, slice_set, FitsSigned};
 ghost use Rattle.std.proofs.Common.{w64};
-ghost use Rattle.envy_base.specs.Array.{page_of};
+ghost use Rattle.envy_array.specs.Array.{page_of};
 ghost use Rattle.envy_memory.specs.Picture.{Picture};
 ghost use Rattle.envy_tpca.specs.Loading.{Accessed};
 ghost use Rattle.envy_tpca.specs.Since.{Since};

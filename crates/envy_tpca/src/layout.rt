@@ -1,10 +1,11 @@
 ghost use Rattle.std.specs.Prelude.{◌≡◌, ◌+◌, ◌*◌, ◌^◌, ◌≤◌};
-ghost use Rattle.envy_base.specs.Area.{Fits};
+ghost use Rattle.envy_array.specs.Area.{Fits};
 ghost use Rattle.envy_tpca.specs.Tpc.{places_of};
 ghost use Rattle.envy_tpca.specs.Trial.{AreSpots, InRange};
 
 use crate::{Places, Spots, Transfer};
-use envy_base::{Area, Board, MOST_ROWS, MOST_WORDS};
+use envy_array::Area;
+use envy_base::{Board, MOST_ROWS, MOST_WORDS};
 
 /// Where the records of an area that fits stand.
 pub fn lay_out<B: Board>(area: &Area, board: &B) -> Places

@@ -7,18 +7,18 @@
 
 mod calls;
 mod draw;
-mod driving;
+mod driver;
 mod fault;
 mod layout;
 mod load;
+mod load_sums;
 mod places;
 mod restart;
-mod summing;
 mod sums;
 mod transfer;
 mod trial;
 
-pub use driving::drive;
+pub use driver::drive;
 pub use fault::DriveFault;
 use fault::Fault;
 pub use load::Load;

@@ -1,7 +1,7 @@
 //! Work between transfers.
 
 ghost use Rattle.std.specs.Prelude.{◌≡◌, false, OnOk, Ok};
-ghost use Rattle.envy_layout.specs.Words.{durable};
+ghost use Rattle.envy_soundness.specs.Words.{durable};
 ghost use Rattle.envy_memory.specs.Picture.{counts_of};
 ghost use Rattle.envy_tpca.specs.Loading.{Accessed};
 ghost use Rattle.envy_tpca.specs.Trying.{Rests, Returns, AfterTransfer};

@@ -1,4 +1,4 @@
-use envy_base::Counts;
+use envy_array::Counts;
 
 /// What a load that was driven to its end added up.
 #[derive(Clone, Copy, Debug, PartialEq, Eq)]

@@ -1,7 +1,7 @@
 //! One try of a transfer.
 
 ghost use Rattle.std.specs.Prelude.{◌≡◌, ℕ, ◌^◌, ◌<◌, ◌≤◌, List, OnOk, length};
-ghost use Rattle.envy_base.specs.Array.{page_of, put_back};
+ghost use Rattle.envy_array.specs.Array.{page_of, put_back};
 ghost use Rattle.envy_memory.specs.Picture.{Picture};
 ghost use Rattle.envy_tpca.specs.declared.places.Places.{Places};
 ghost use Rattle.envy_tpca.specs.declared.transfer.Transfer.{Transfer as ATransfer};

@@ -9,3 +9,5 @@ pub mod Pieces
 pub mod Readings
 pub mod Tables
 pub mod Written
+pub mod Costs
+pub mod KeepLines

@@ -4,3 +4,5 @@ pub mod Grammar
 pub mod Mirror
 pub mod Replies
 pub mod Spelling
+pub mod Stat
+pub mod Keep

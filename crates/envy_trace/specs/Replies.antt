@@ -1,6 +1,6 @@
 -- How a reply is written, without a newline.
 use Rattle.std.specs.Prelude.{ℕ, List, ◌++◌, codes, decimal}
-use Rattle.envy_report.specs.Stat.{stat_bytes}
+use Rattle.envy_trace.specs.Stat.{stat_bytes}
 use Rattle.envy_trace.specs.declared.reply.Reply.{Reply}
 use Rattle.envy_trace.specs.declared.reply.Reply.TheVariants.{Word, Done, Started, Range, Held, Closed, Full, Busy, Fault, Lost, Restarted, Armed, Stat}
 

@@ -4,8 +4,8 @@ ghost use Rattle.envy_trace.specs.Mirror.{mirror_bytes};
 
 use crate::reply::Reply;
 use crate::write::reply_text;
+use crate::{push_number, push_text};
 use arrayvec::ArrayVec;
-use envy_report::{push_number, push_text};
 
 /// The reply to a line of a trace for a pair of boards.
 #[derive(Clone, Copy, Debug, PartialEq, Eq)]

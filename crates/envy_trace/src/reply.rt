@@ -1,4 +1,4 @@
-use envy_base::Counts;
+use envy_array::Counts;
 
 /// The reply to a line of a trace.
 #[derive(Clone, Copy, Debug, PartialEq, Eq)]

@@ -8,8 +8,8 @@ ghost use Rattle.envy_trace.specs.Spelling.{HasPlace, IsLine, written, line_byte
 use crate::command::Command;
 use crate::line::Line;
 use crate::reply::Reply;
+use crate::{push_number, push_text, stat_text};
 use arrayvec::ArrayVec;
-use envy_report::{push_number, push_text, stat_text};
 
 /// Writes the line into an empty buffer, without a newline: the command word, and before each number one
 /// space. Of an empty line nothing is written. A planned fault has a place from 1 on.

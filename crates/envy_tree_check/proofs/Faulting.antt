@@ -1,6 +1,6 @@
 -- How faults are handed on, and their causes.
 use Rattle.std.proofs.Common.{◌≡◌, ℕ, suc, ◌+◌, ◌*◌, ◌^◌, ◌≤◌, Bool, true, false, IsTrue, List, [], ◌∷◌, length, Result, Ok, Err, IsErrAnd, IfErr, get_or, refl, sym, subst, arith}
-use Rattle.envy_base.specs.Words.{Sheet}
+use Rattle.envy_array.specs.Words.{Sheet}
 use Rattle.envy_heap.specs.Pieces.{IsHeap, head}
 use Rattle.envy_btree.specs.Rules.{key_count, kind_at, Leads, slot_at}
 use Rattle.envy_tree_check.specs.declared.fault.MapFault.{MapFault}

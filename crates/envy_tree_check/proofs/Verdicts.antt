@@ -1,6 +1,6 @@
 -- What a check of a tree, and of all words, tells by its answers.
 use Rattle.std.proofs.Common.{◌≡◌, ◌≢◌, ◌⊎◌, ℕ, ◌+◌, ◌-◌, ◌^◌, ◌<◌, ◌≤◌, Bool, true, IsTrue, List, length, get_or, Result, Ok, Err, IfOk, IfErr, OnOk, refl, sym, subst, ◌∙◌, inl, inr, arith}
-use Rattle.envy_base.specs.Words.{Sheet}
+use Rattle.envy_array.specs.Words.{Sheet}
 use Rattle.envy_heap.specs.Pieces.{IsHeap}
 use Rattle.envy_btree.specs.Index.{IsIndex}
 use Rattle.envy_btree.specs.Rules.{pairs_under}

@@ -1,7 +1,7 @@
 -- What a check has seen.
 use Rattle.std.specs.Prelude.{◌≡◌, ◌⊎◌, ℕ, zero, suc, ◌+◌, ◌-◌, ◌^◌, ◌<◌, ◌≤◌, min, Bool, true, false, IsTrue, List, [], length, slice_index, slice_set, nat_lt, if◌then◌else◌, Result, Ok, Err}
 use Rattle.std.specs.List.{sum_by}
-use Rattle.envy_base.specs.Words.{Sheet}
+use Rattle.envy_array.specs.Words.{Sheet}
 use Rattle.envy_heap.specs.Pieces.{IsHeap, at, handed, head, one, times}
 use Rattle.envy_btree.specs.Rules.{key_count, kind_at, Leads, pairs_under}
 use Rattle.envy_btree.specs.Tree.{Tree, Holds, Ordered, Sized, piece_of, uses, window}

@@ -9,7 +9,8 @@ ghost use Rattle.envy_tree_check.specs.Grown.{Powers};
 use crate::fault::MapFault;
 use crate::node::Spot;
 use crate::sizes::{KEYS, PIECE_WORDS, SLOTS};
-use envy_base::{Off, Words};
+use envy_array::Words;
+use envy_base::Off;
 
 /// Child j of an inner node with so many keys, of which none is 0.
 pub(crate) fn child_of<W: Words>(

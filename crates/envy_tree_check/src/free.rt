@@ -6,7 +6,7 @@ ghost use Rattle.envy_tree_check.specs.Grown.{AreMarked, Powers, marked};
 
 use crate::fault::MapFault;
 use crate::sizes::{HEAD_LIMIT, PIECE_WORDS};
-use envy_base::Words;
+use envy_array::Words;
 
 /// How many pieces are free, of those that were ever handed out. Those whose first word could be a node's are marked,
 /// each at the place of its first word.

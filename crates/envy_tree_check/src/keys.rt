@@ -9,7 +9,7 @@ ghost use Rattle.envy_tree_check.specs.Grown.{Powers};
 use crate::fault::MapFault;
 use crate::node::Spot;
 use crate::sizes::{KEYS, PIECE_WORDS};
-use envy_base::Words;
+use envy_array::Words;
 
 /// Whether the keys of a node rise within its bounds, of which there are `count`.
 pub(crate) fn check_keys<W: Words>(words: &mut W, spot: Spot, count: u32) -> Result<(), MapFault>

@@ -6,7 +6,7 @@ ghost use Rattle.envy_tree_check.specs.Grown.{AreLevels, Powers};
 
 use crate::fault::MapFault;
 use crate::sizes::{LEVELS, PIECE_WORDS, SLOTS};
-use envy_base::Words;
+use envy_array::Words;
 
 /// How many levels of inner nodes are above the first leaf.
 pub(crate) fn levels_of<W: Words>(words: &mut W, used: u32, root: u32) -> Result<u32, MapFault>

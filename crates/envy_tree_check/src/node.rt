@@ -6,7 +6,7 @@ ghost use Rattle.envy_tree_check.specs.Grown.{AreMarked, Powers};
 
 use crate::fault::MapFault;
 use crate::sizes::{FEWEST_KEYS, HEAD_LIMIT, PIECE_WORDS};
-use envy_base::Words;
+use envy_array::Words;
 
 /// A node that is to be checked: its piece, whether it is the root, how many levels are under it, and its keys are to
 /// be from `low` to `top`.

@@ -9,7 +9,7 @@ use crate::child::child_of;
 use crate::fault::MapFault;
 use crate::keys::check_keys;
 use crate::node::{Spot, count_of};
-use envy_base::Words;
+use envy_array::Words;
 
 /// How many nodes and pairs were seen. The counts stop at the top.
 #[derive(Clone, Copy)]

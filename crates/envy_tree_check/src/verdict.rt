@@ -12,7 +12,7 @@ use crate::levels::levels_of;
 use crate::node::Spot;
 use crate::sizes::{LEAST_WORDS, PIECE_PAIRS, PIECE_WORDS, SPARE_PIECES};
 use crate::tree::{Tally, check_under};
-use envy_base::Words;
+use envy_array::Words;
 
 /// Whether the words stand for a map, whatever they are.
 ///

@@ -12,13 +12,13 @@ use Rattle.envy_base.specs.declared.fields.Undo.TheVariants.{Clear, Blank, Shado
 use Rattle.envy_base.specs.declared.shape.Shape.{Shape}
 use Rattle.envy_map.specs.Fields.{Fields, Chart, place, undo, slot}
 use Rattle.envy_map.specs.Writes.{with_place, with_undo}
-use Rattle.envy_layout.specs.May.{named_by}
-use Rattle.envy_layout.specs.Naming.{AreParted}
-use Rattle.envy_layout.specs.PageRows.{page_kept_in}
-use Rattle.envy_layout.specs.RowKinds.{is_shadow_in}
-use Rattle.envy_layout.specs.Sound.{Sound, IsSound, Places, Slots, slot_named, owned_by}
-use Rattle.envy_layout.specs.Words.{kept, kept_by}
-use Rattle.envy_layout.proofs.KeptLemmas.{kept_by-active}
+use Rattle.envy_soundness.specs.May.{named_by}
+use Rattle.envy_soundness.specs.Naming.{AreParted}
+use Rattle.envy_soundness.specs.PageRows.{page_kept_in}
+use Rattle.envy_soundness.specs.RowKinds.{is_shadow_in}
+use Rattle.envy_soundness.specs.Sound.{Sound, IsSound, Places, Slots, slot_named, owned_by}
+use Rattle.envy_soundness.specs.Words.{kept, kept_by}
+use Rattle.envy_soundness.proofs.KeptLemmas.{kept_by-active}
 use Rattle.envy_space.specs.Pool.{Pool, PoolAgrees, IsPoolOf}
 use Rattle.envy_space.specs.Noting.{Leaving}
 use Rattle.envy_space.proofs.NotingLemmas.{PoolAgrees-same}

@@ -11,11 +11,11 @@ use Rattle.envy_base.specs.declared.fields.Undo.{Undo}
 use Rattle.envy_base.specs.declared.fields.Undo.TheVariants.{Clear, Blank, Shadow}
 use Rattle.envy_map.specs.Fields.{Chart, with_fields, place, undo, slot}
 use Rattle.envy_map.specs.Writes.{with_place, with_undo}
-use Rattle.envy_layout.specs.May.{IsUnused}
-use Rattle.envy_layout.specs.Sound.{slot_named}
-use Rattle.envy_layout.specs.Words.{kept, kept_by, live, durable, live_word, durable_word, word_at}
-use Rattle.envy_layout.proofs.WordLists.{words-at}
-use Rattle.envy_layout.proofs.SlotLaw.{names-slot}
+use Rattle.envy_soundness.specs.May.{IsUnused}
+use Rattle.envy_soundness.specs.Sound.{slot_named}
+use Rattle.envy_soundness.specs.Words.{kept, kept_by, live, durable, live_word, durable_word, word_at}
+use Rattle.envy_soundness.proofs.WordLists.{words-at}
+use Rattle.envy_soundness.proofs.SlotLaw.{names-slot}
 use Rattle.envy_frames.specs.declared.held.Held.{Held}
 use Rattle.envy_txn.specs.declared.pair.Pair.{Pair}
 use Rattle.envy_txn.specs.Ending.{Restores}

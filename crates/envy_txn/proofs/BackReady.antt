@@ -6,7 +6,7 @@ use Rattle.envy_base.specs.declared.fields.Undo.{Undo}
 use Rattle.envy_base.specs.declared.fields.Undo.TheVariants.{Clear}
 use Rattle.envy_map.specs.Fields.{Chart, with_fields}
 use Rattle.envy_map.specs.Writes.{with_place, with_undo}
-use Rattle.envy_layout.specs.Sound.{IsSound}
+use Rattle.envy_soundness.specs.Sound.{IsSound}
 use Rattle.envy_frames.specs.declared.held.Held.{Held}
 use Rattle.envy_space.specs.Pool.{Pool}
 use Rattle.envy_table.specs.Agreement.{AreCurrent}

@@ -9,7 +9,7 @@ use Rattle.envy_base.specs.declared.fields.Undo.{Undo}
 use Rattle.envy_base.specs.declared.fields.Undo.TheVariants.{Clear, Blank, Shadow}
 use Rattle.envy_base.specs.declared.shape.Shape.{Shape}
 use Rattle.envy_map.specs.Fields.{Chart}
-use Rattle.envy_layout.specs.May.{named_by}
+use Rattle.envy_soundness.specs.May.{named_by}
 use Rattle.envy_frames.specs.Agreement.{AreHeld, IsHeld, IsElsewhere}
 use Rattle.envy_frames.specs.declared.held.Held.{Held}
 use Rattle.envy_frames.specs.Order.{is_other}

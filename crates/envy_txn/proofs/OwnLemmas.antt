@@ -10,7 +10,7 @@ use Rattle.std.proofs.lemmas.List.{length_push}
 use Rattle.envy_base.specs.declared.fields.Slot.{Slot}
 use Rattle.envy_base.specs.declared.fields.Undo.{Undo}
 use Rattle.envy_frames.specs.declared.held.Held.{Held}
-use Rattle.envy_layout.specs.Sound.{slot_named}
+use Rattle.envy_soundness.specs.Sound.{slot_named}
 use Rattle.envy_map.specs.Fields.{Chart}
 use Rattle.envy_txn.specs.declared.pair.Pair.{Pair}
 use Rattle.envy_txn.specs.Entries.{Book, IsOwned, is_own, own_of}

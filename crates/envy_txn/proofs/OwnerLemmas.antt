@@ -11,9 +11,9 @@ use Rattle.envy_base.specs.declared.fields.Undo.TheVariants.{Clear, Blank, Shado
 use Rattle.envy_base.specs.declared.fields.Slot.TheVariants.{Active}
 use Rattle.envy_base.specs.declared.shape.Shape.{Shape}
 use Rattle.envy_map.specs.Fields.{Fields}
-use Rattle.envy_layout.specs.May.{MayUndo, IsOpen}
-use Rattle.envy_layout.specs.Sound.{owned_by, slot_named}
-use Rattle.envy_layout.proofs.KeptLemmas.{owned_by-active}
+use Rattle.envy_soundness.specs.May.{MayUndo, IsOpen}
+use Rattle.envy_soundness.specs.Sound.{owned_by, slot_named}
+use Rattle.envy_soundness.proofs.KeptLemmas.{owned_by-active}
 use Rattle.envy_frames.proofs.CountLemmas.{length-numbers}
 use Rattle.envy_frames.proofs.Lists.{AllPairs-head, AllPairs-tail}
 use Rattle.envy_txn.specs.declared.pair.Pair.{Pair}

@@ -6,8 +6,8 @@ use Rattle.envy_base.specs.declared.fields.Place.TheVariants.{Absent, Row, Frame
 use Rattle.envy_base.specs.declared.fields.Undo.{Undo}
 use Rattle.envy_base.specs.declared.fields.Undo.TheVariants.{Clear, Blank, Shadow}
 use Rattle.envy_base.specs.declared.shape.Shape.{Shape}
-use Rattle.envy_layout.specs.May.{named_by}
-use Rattle.envy_layout.specs.Sound.{slot_named}
+use Rattle.envy_soundness.specs.May.{named_by}
+use Rattle.envy_soundness.specs.Sound.{slot_named}
 use Rattle.envy_frames.specs.Agreement.{AreHeld}
 use Rattle.envy_frames.specs.declared.held.Held.{Held}
 use Rattle.envy_space.specs.Pool.{Pool}

@@ -12,10 +12,10 @@ use Rattle.envy_base.specs.declared.fields.Undo.TheVariants.{Clear, Blank, Shado
 use Rattle.envy_base.specs.declared.shape.Shape.{Shape}
 use Rattle.envy_map.specs.Fields.{Fields, Chart, with_fields, place, undo}
 use Rattle.envy_map.specs.Writes.{with_slot, with_undo}
-use Rattle.envy_layout.specs.PageRows.{page_kept_in}
-use Rattle.envy_layout.specs.RowKinds.{is_in, is_row, is_shadow_in}
-use Rattle.envy_layout.specs.Sound.{Slots, Sound, slot_named}
-use Rattle.envy_layout.specs.Words.{if_active}
+use Rattle.envy_soundness.specs.PageRows.{page_kept_in}
+use Rattle.envy_soundness.specs.RowKinds.{is_in, is_row, is_shadow_in}
+use Rattle.envy_soundness.specs.Sound.{Slots, Sound, slot_named}
+use Rattle.envy_soundness.specs.Words.{if_active}
 use Rattle.envy_space.specs.Noting.{ChangesPage, NamesOneMore, NamesAsMany, lies_in}
 use Rattle.envy_space.specs.Pool.{Pool, PoolAgrees, IsPoolOf}
 use Rattle.envy_space.proofs.NotingLemmas.{PoolAgrees-dead, PoolAgrees-same}

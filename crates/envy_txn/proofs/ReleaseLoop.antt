@@ -10,11 +10,11 @@ use Rattle.envy_base.specs.declared.fields.Undo.{Undo}
 use Rattle.envy_base.specs.declared.fields.Undo.TheVariants.{Clear, Shadow}
 use Rattle.envy_map.specs.Fields.{Chart, with_fields, undo, slot}
 use Rattle.envy_map.specs.Writes.{with_slot, with_undo}
-use Rattle.envy_layout.specs.May.{IsUnused}
-use Rattle.envy_layout.specs.Naming.{AreParted}
-use Rattle.envy_layout.specs.Same.{SameWords}
-use Rattle.envy_layout.specs.Sound.{Sound, IsSound, Slots, slot_named}
-use Rattle.envy_layout.proofs.KeptCounts.{kept_in-slot}
+use Rattle.envy_soundness.specs.May.{IsUnused}
+use Rattle.envy_soundness.specs.Naming.{AreParted}
+use Rattle.envy_soundness.specs.Same.{SameWords}
+use Rattle.envy_soundness.specs.Sound.{Sound, IsSound, Slots, slot_named}
+use Rattle.envy_soundness.proofs.KeptCounts.{kept_in-slot}
 use Rattle.envy_space.specs.Pool.{Pool, PoolAgrees}
 use Rattle.envy_txn.specs.declared.pair.Pair.{Pair}
 use Rattle.envy_txn.specs.Ending.{Releases}

@@ -10,12 +10,12 @@ use Rattle.envy_base.specs.declared.fields.Undo.{Undo}
 use Rattle.envy_base.specs.declared.fields.Undo.TheVariants.{Clear, Blank, Shadow}
 use Rattle.envy_map.specs.Fields.{Fields, Chart, with_fields, place, undo, slot}
 use Rattle.envy_map.specs.Writes.{with_undo}
-use Rattle.envy_layout.specs.May.{named_by}
-use Rattle.envy_layout.proofs.KeptLemmas.{kept_by-active}
-use Rattle.envy_layout.specs.Same.{SameWords}
-use Rattle.envy_layout.specs.Sound.{Sound, IsSound, Slots, slot_named, slots_of}
-use Rattle.envy_layout.specs.Words.{kept, kept_by, if_active, live, live_word, durable_word, word_at}
-use Rattle.envy_layout.proofs.WordLists.{words-same}
+use Rattle.envy_soundness.specs.May.{named_by}
+use Rattle.envy_soundness.proofs.KeptLemmas.{kept_by-active}
+use Rattle.envy_soundness.specs.Same.{SameWords}
+use Rattle.envy_soundness.specs.Sound.{Sound, IsSound, Slots, slot_named, slots_of}
+use Rattle.envy_soundness.specs.Words.{kept, kept_by, if_active, live, live_word, durable_word, word_at}
+use Rattle.envy_soundness.proofs.WordLists.{words-same}
 use Rattle.envy_txn.specs.Ending.{Settles}
 use Rattle.envy_txn.specs.Turns.{SettledTo, VacatedTo}
 use Rattle.envy_txn.proofs.BackLoop.{Returns, place-here, undo-here, place-other, undo-other, rest-more, kept-same}

@@ -9,8 +9,8 @@ use Rattle.envy_base.specs.declared.fields.Slot.{Slot}
 use Rattle.envy_base.specs.declared.fields.Slot.TheVariants.{Active}
 use Rattle.envy_base.specs.declared.fields.Undo.{Undo}
 use Rattle.envy_base.specs.declared.fields.Undo.TheVariants.{Clear, Blank, Shadow}
-use Rattle.envy_layout.specs.Sound.{owned_by, slot_named, is_active}
-use Rattle.envy_layout.proofs.SlotLaw.{names-slot}
+use Rattle.envy_soundness.specs.Sound.{owned_by, slot_named, is_active}
+use Rattle.envy_soundness.proofs.SlotLaw.{names-slot}
 use Rattle.envy_frames.proofs.Lists.{Any-weaker}
 use Rattle.envy_txn.specs.declared.pair.Pair.{Pair}
 use Rattle.envy_txn.specs.Owners.{AreApart, AreOwned, owner_of, owner_in, others_of, without}

@@ -2,7 +2,7 @@
 use Rattle.std.proofs.Common.{◌≡◌, ◌∙◌, sym, Bool, true, false, Result, Ok, Err, IsErrAnd}
 use Rattle.std.specs.Prelude.{OnOk}
 use Rattle.envy_base.specs.declared.board.Off.{Off}
-use Rattle.envy_layout.specs.Power.{power_of}
+use Rattle.envy_soundness.specs.Power.{power_of}
 
 pub none-done : {T : Type 0} (r : Result T Off) (Q : Off → Type 0) (P : Type 0) → IsErrAnd r Q → OnOk r P
 none-done (Ok x) Q P h = absurd h

@@ -3,9 +3,9 @@ use Rattle.std.specs.Prelude.{◌≡◌, ◌≢◌, ℕ, ◌/◌, ◌<◌, ◌�
 use Rattle.envy_base.specs.declared.fields.Slot.TheVariants.{Vacant}
 use Rattle.envy_base.specs.declared.fields.Undo.TheVariants.{Clear}
 use Rattle.envy_map.specs.Fields.{Chart, with_fields, place, undo, slot}
-use Rattle.envy_layout.specs.May.{IsSettled}
-use Rattle.envy_layout.specs.Sound.{slot_named, slots_of}
-use Rattle.envy_layout.specs.Words.{kept, live, durable}
+use Rattle.envy_soundness.specs.May.{IsSettled}
+use Rattle.envy_soundness.specs.Sound.{slot_named, slots_of}
+use Rattle.envy_soundness.specs.Words.{kept, live, durable}
 use Rattle.envy_base.specs.declared.page.TheConstants.{PAGE_WORDS}
 
 -- no undo names slot t any more: those that did are clear, and nothing else of the board changed

@@ -4,7 +4,7 @@ use Rattle.std.specs.List.{filter}
 use Rattle.envy_base.specs.declared.fields.Slot.{Slot}
 use Rattle.envy_base.specs.declared.fields.Undo.{Undo}
 use Rattle.envy_base.specs.declared.fields.Undo.TheVariants.{Clear, Blank, Shadow}
-use Rattle.envy_layout.specs.Sound.{owned_by, slot_named}
+use Rattle.envy_soundness.specs.Sound.{owned_by, slot_named}
 use Rattle.envy_txn.specs.declared.pair.Pair.{Pair}
 
 -- the pages and their slots in order of owning, and how many there may be

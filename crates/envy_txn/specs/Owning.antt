@@ -4,9 +4,9 @@ use Rattle.std.specs.List.{filter}
 use Rattle.envy_base.specs.declared.fields.Undo.{Undo}
 use Rattle.envy_map.specs.Fields.{Chart, with_fields, undo}
 use Rattle.envy_map.specs.Writes.{with_undo}
-use Rattle.envy_layout.specs.May.{MayUndo, IsUnused}
-use Rattle.envy_layout.specs.Naming.{AreParted}
-use Rattle.envy_layout.specs.Sound.{IsSound, slot_named}
+use Rattle.envy_soundness.specs.May.{MayUndo, IsUnused}
+use Rattle.envy_soundness.specs.Naming.{AreParted}
+use Rattle.envy_soundness.specs.Sound.{IsSound, slot_named}
 use Rattle.envy_frames.specs.Agreement.{AreHeld}
 use Rattle.envy_frames.specs.declared.held.Held.{Held}
 use Rattle.envy_space.specs.Pool.{Pool, PoolAgrees}

@@ -8,9 +8,9 @@ use Rattle.envy_base.specs.declared.fields.Undo.{Undo}
 use Rattle.envy_base.specs.declared.fields.Undo.TheVariants.{Clear, Blank, Shadow}
 use Rattle.envy_map.specs.Fields.{Chart, with_fields, place, undo, slot}
 use Rattle.envy_map.specs.Writes.{with_slot}
-use Rattle.envy_layout.specs.Naming.{AreParted}
-use Rattle.envy_layout.specs.Sound.{IsSound, slot_named}
-use Rattle.envy_layout.specs.Words.{kept}
+use Rattle.envy_soundness.specs.Naming.{AreParted}
+use Rattle.envy_soundness.specs.Sound.{IsSound, slot_named}
+use Rattle.envy_soundness.specs.Words.{kept}
 use Rattle.envy_frames.specs.Agreement.{AreHeld}
 use Rattle.envy_frames.specs.declared.held.Held.{Held}
 use Rattle.envy_frames.specs.Order.{is_other}

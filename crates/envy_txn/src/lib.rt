@@ -14,7 +14,7 @@ mod pair;
 mod release;
 mod restore;
 mod search;
-mod settling;
+mod settlement;
 mod undos;
 
 pub use laws::{
@@ -22,4 +22,4 @@ pub use laws::{
 };
 pub use owned::Owned;
 pub use pair::Pair;
-pub use settling::settle;
+pub use settlement::settle;

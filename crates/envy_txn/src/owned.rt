@@ -1,9 +1,9 @@
 ghost use Rattle.std.specs.Prelude.{◌≡◌, ◌≢◌, ◌↔◌, ◌<◌, ◌≤◌, false, IsTrue, [], ◌∷◌, ◌++◌, length, None, Some, All, IsNone, IfOk, OnOk, OnErr};
 ghost use Rattle.envy_map.specs.Codes.{IsUndo};
 ghost use Rattle.envy_map.specs.Fields.{chart};
-ghost use Rattle.envy_layout.specs.Power.{power_of};
-ghost use Rattle.envy_layout.specs.Same.{SameWords};
-ghost use Rattle.envy_layout.specs.Sound.{IsSound};
+ghost use Rattle.envy_soundness.specs.Power.{power_of};
+ghost use Rattle.envy_soundness.specs.Same.{SameWords};
+ghost use Rattle.envy_soundness.specs.Sound.{IsSound};
 ghost use Rattle.envy_txn.specs.Owners.{IsOwnership, AreOwned, owner_of, others_of};
 ghost use Rattle.envy_txn.specs.Owning.{MayOwn, Owns};
 
@@ -11,7 +11,7 @@ use crate::ledger::Ledger;
 use crate::pair::Pair;
 use crate::undos::slot_in;
 use envy_base::{Board, NoMemory, Off, Undo};
-use envy_layout::own_page;
+use envy_soundness::own_page;
 use std::alloc::Global;
 use std::marker::Model;
 

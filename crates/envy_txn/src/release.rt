@@ -2,9 +2,9 @@ ghost use Rattle.std.specs.Prelude.{◌≡◌, ◌<◌, false, IsTrue, Some, All
 ghost use Rattle.envy_base.specs.declared.fields.Slot.TheVariants.{Active};
 ghost use Rattle.envy_map.specs.Fields.{chart, with_fields, undo as undo_of};
 ghost use Rattle.envy_map.specs.Writes.{with_slot, with_undo};
-ghost use Rattle.envy_layout.specs.Power.{power_of};
-ghost use Rattle.envy_layout.specs.Same.{SameWords};
-ghost use Rattle.envy_layout.specs.Sound.{IsSound, slot_named};
+ghost use Rattle.envy_soundness.specs.Power.{power_of};
+ghost use Rattle.envy_soundness.specs.Same.{SameWords};
+ghost use Rattle.envy_soundness.specs.Sound.{IsSound, slot_named};
 ghost use Rattle.envy_txn.specs.Owners.{AreApart, AreOwned};
 ghost use Rattle.envy_txn.specs.Owning.{OwnersAgree, ReleasesAll};
 ghost use Rattle.envy_txn.specs.Turns.{AreNamed, Releasing, ReleasedIn, IsDroppable, dropped_pool};
@@ -12,8 +12,8 @@ ghost use Rattle.envy_txn.specs.Turns.{AreNamed, Releasing, ReleasedIn, IsDroppa
 use crate::owned::Owned;
 use crate::pair::Pair;
 use envy_base::{Board, Off, Undo};
-use envy_layout::clear_settled_undo;
 use envy_map::undo;
+use envy_soundness::clear_settled_undo;
 use envy_space::Space;
 
 impl Owned {

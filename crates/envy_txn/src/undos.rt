@@ -2,14 +2,14 @@ ghost use Rattle.std.specs.Prelude.{◌≡◌, ◌<◌, true, IsTrue, Some, IfSo
 ghost use Rattle.envy_map.specs.Codes.{IsPlace, IsUndo};
 ghost use Rattle.envy_map.specs.Fields.{chart, with_fields, undo as undo_of};
 ghost use Rattle.envy_map.specs.Writes.{with_place, with_undo};
-ghost use Rattle.envy_layout.specs.May.{named_by};
-ghost use Rattle.envy_layout.specs.Power.{power_of};
-ghost use Rattle.envy_layout.specs.Same.{SameDurable};
-ghost use Rattle.envy_layout.specs.Sound.{IsSound, owned_by, slot_named};
-ghost use Rattle.envy_layout.specs.Words.{kept};
+ghost use Rattle.envy_soundness.specs.May.{named_by};
+ghost use Rattle.envy_soundness.specs.Power.{power_of};
+ghost use Rattle.envy_soundness.specs.Same.{SameDurable};
+ghost use Rattle.envy_soundness.specs.Sound.{IsSound, owned_by, slot_named};
+ghost use Rattle.envy_soundness.specs.Words.{kept};
 
 use envy_base::{Board, Off, Place, Undo};
-use envy_layout::{clear_settled_undo, restore_place};
+use envy_soundness::{clear_settled_undo, restore_place};
 
 /// The slot that an undo names.
 pub fn slot_in(undo: Undo) -> Option<u8>

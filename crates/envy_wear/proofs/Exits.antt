@@ -2,7 +2,7 @@
 use Rattle.std.proofs.Common.{◌≡◌, Bool, false, Option, None, Some, Result, Ok, Err, IsErrAnd, IfOk, IfSome}
 use Rattle.std.specs.Prelude.{OnErr}
 use Rattle.envy_base.specs.declared.board.Off.{Off}
-use Rattle.envy_layout.specs.Power.{power_of}
+use Rattle.envy_soundness.specs.Power.{power_of}
 
 pub none-if : {T : Type 0} (r : Result T Off) (Q : Off → Type 0) (P : T → Type 0) → IsErrAnd r Q → IfOk r P
 none-if (Ok x) Q P h = absurd h

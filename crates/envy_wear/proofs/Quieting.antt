@@ -1,7 +1,7 @@
 -- When no swap is due, by what is known of the wear words.
 use Rattle.std.proofs.Common.{◌≡◌, ℕ, ◌-◌, ◌<◌, ◌≤◌, get_or, arith}
 use Rattle.envy_map.specs.Fields.{Chart}
-use Rattle.envy_layout.specs.Sound.{IsSound, Sound}
+use Rattle.envy_soundness.specs.Sound.{IsSound, Sound}
 use Rattle.envy_wear.specs.declared.swap.Swap.{Swap}
 use Rattle.envy_wear.specs.Swaps.{IsDue, IsQuiet, IsMostWorn, IsLeastWorn, wear_at}
 use Rattle.envy_base.specs.Shape.{positions_of}

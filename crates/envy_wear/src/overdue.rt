@@ -1,7 +1,7 @@
 ghost use Rattle.std.specs.Prelude.{◌≡◌, ◌+◌, ◌-◌, ◌<◌, ℕ, false, IsTrue, IfOk, OnErr, MatchOption};
 ghost use Rattle.envy_map.specs.Fields.{chart};
-ghost use Rattle.envy_layout.specs.Power.{power_of};
-ghost use Rattle.envy_layout.specs.Sound.{IsSound};
+ghost use Rattle.envy_soundness.specs.Power.{power_of};
+ghost use Rattle.envy_soundness.specs.Sound.{IsSound};
 ghost use Rattle.envy_wear.specs.declared.swap.Swap.{Swap as ASwap};
 ghost use Rattle.envy_wear.specs.Swaps.{wear_at, IsDue, IsMostWorn, IsLeastWorn};
 ghost use Rattle.envy_base.specs.Shape.{positions_of};

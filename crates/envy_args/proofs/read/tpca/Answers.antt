@@ -1,7 +1,7 @@
 use Rattle.std.proofs.Common.{◌↔◌, ℕ, IsTrue, ap, refl, subst, sym}
 use Rattle.std.proofs.lemmas.Result.{err_from_is_err_and}
-use Rattle.envy_base.specs.Area.{Fits}
-use Rattle.envy_base.specs.declared.area.Area.{Area}
+use Rattle.envy_array.specs.Area.{Fits}
+use Rattle.envy_array.specs.declared.area.Area.{Area}
 use Rattle.envy_policy.specs.declared.setup.Setup.{Setup}
 use Rattle.envy_args.proofs.Loads.{load-made, load-refused, load-shadows, load-unfit}
 use Rattle.envy_args.proofs.Readable.{tpca-all, tpca-area, tpca-every, tpca-run, tpca-start}

@@ -2,7 +2,7 @@ use Rattle.std.proofs.Common.{below_more, ℕ, ◌-◌, ◌<◌, ◌∙◌, ap, 
 use Rattle.std.specs.Prelude.{slice_index}
 use Rattle.envy_base.specs.declared.shape.Shape.{Shape}
 use Rattle.envy_map.specs.Fields.{chart}
-use Rattle.envy_layout.specs.Sound.{Names}
+use Rattle.envy_soundness.specs.Sound.{Names}
 use Rattle.envy_audit.specs.Points.{rows_of}
 use Rattle.envy_audit.proofs.Turning.{refuted, shown, no-owner, some-owner, not-so, copy-told, copy-known}
 use Rattle.envy_audit.proofs.copies.copies_are_same.Goals as goal

@@ -2,7 +2,7 @@ use Rattle.std.proofs.Common.{below_more, ℕ, ◌+◌, ◌-◌, ◌*◌, ◌<�
 use Rattle.std.specs.Prelude.{slice_index}
 use Rattle.envy_base.specs.declared.shape.Shape.{Shape}
 use Rattle.envy_map.specs.Fields.{chart}
-use Rattle.envy_layout.specs.Sound.{Names}
+use Rattle.envy_soundness.specs.Sound.{Names}
 use Rattle.envy_audit.specs.Points.{rows_of}
 use Rattle.envy_audit.proofs.Turning.{refuted, shown, no-owner, some-owner, row-in}
 use Rattle.envy_audit.proofs.copies.is_kept_once.Goals as goal

@@ -1,6 +1,6 @@
 use Rattle.std.specs.Prelude.{ℕ, ◌<◌}
 use Rattle.envy_map.specs.Fields.{chart}
-use Rattle.envy_layout.specs.Sound.{IsSpare}
+use Rattle.envy_soundness.specs.Sound.{IsSpare}
 use Rattle.envy_audit.specs.Copying.{IsKeptOnce}
 use Rattle.envy_audit.proofs.jobs.kept_once.Given as goal
 

@@ -1,7 +1,7 @@
 use Rattle.std.specs.Prelude.{◌≡◌, ◌⊎◌, ℕ, suc, ◌/◌, ◌<◌, Some, slice_index}
 use Rattle.envy_base.specs.declared.fields.Job.TheVariants.{Switch}
 use Rattle.envy_map.specs.Fields.{chart}
-use Rattle.envy_layout.specs.Sound.{IsSpare}
+use Rattle.envy_soundness.specs.Sound.{IsSpare}
 use Rattle.envy_audit.specs.Points.{Stands}
 use Rattle.envy_audit.proofs.kept.kept_are_placed.Given as goal
 

@@ -1,6 +1,6 @@
 use Rattle.std.specs.Prelude.{◌≡◌, ℕ, suc, ◌/◌, ◌<◌, slice_index}
 use Rattle.envy_map.specs.Fields.{chart}
-use Rattle.envy_layout.specs.Sound.{IsReserved}
+use Rattle.envy_soundness.specs.Sound.{IsReserved}
 use Rattle.envy_audit.proofs.kept.reserves_are_unkept.Given as goal
 
 abbrev pub invariant-loop-row : goal.invariant-loop-row

@@ -2,7 +2,7 @@ use Rattle.std.specs.Prelude.{◌≡◌, ◌⊎◌, ℕ, ◌%◌, ◌/◌, ◌<�
 use Rattle.envy_base.specs.declared.fields.Job.TheVariants.{Erase}
 use Rattle.envy_base.specs.State.{ones}
 use Rattle.envy_map.specs.Fields.{chart}
-use Rattle.envy_layout.specs.Sound.{IsSpare}
+use Rattle.envy_soundness.specs.Sound.{IsSpare}
 use Rattle.envy_audit.proofs.segments.free_are_ones.Given as goal
 
 abbrev pub invariant-loop-row : goal.invariant-loop-row

@@ -1,6 +1,6 @@
 use Rattle.std.specs.Prelude.{◌≡◌, ℕ, ◌<◌, slice_index}
 use Rattle.envy_map.specs.Fields.{chart}
-use Rattle.envy_layout.specs.Sound.{IsSpare}
+use Rattle.envy_soundness.specs.Sound.{IsSpare}
 use Rattle.envy_audit.proofs.segments.idle_spare_is_empty.Given as goal
 
 abbrev pub invariant-loop-segment : goal.invariant-loop-segment

@@ -1,6 +1,6 @@
 use Rattle.std.specs.Prelude.{◌≡◌, ◌≤◌, take, count_by}
 use Rattle.envy_map.specs.Fields.{chart}
-use Rattle.envy_layout.specs.Sound.{owned_by}
+use Rattle.envy_soundness.specs.Sound.{owned_by}
 use Rattle.envy_audit.proofs.undos.few_are_owned.Given as goal
 
 abbrev pub invariant-loop-page : goal.invariant-loop-page

@@ -1,7 +1,7 @@
 use Rattle.std.specs.Prelude.{◌≡◌, ◌≢◌, ℕ, ◌<◌, Some}
 use Rattle.envy_base.specs.declared.fields.Slot.TheVariants.{Vacant}
 use Rattle.envy_map.specs.Fields.{chart, undo, slot}
-use Rattle.envy_layout.specs.Sound.{slot_named}
+use Rattle.envy_soundness.specs.Sound.{slot_named}
 use Rattle.envy_audit.proofs.undos.undos_are_in_use.Given as goal
 
 abbrev pub invariant-loop-page : goal.invariant-loop-page

@@ -1,5 +1,5 @@
 use Rattle.std.proofs.Common.{◌≡◌, ◌<◌, ◌↔◌, ℕ, IsTrue, slice_index, slice_index_or}
-use Rattle.envy_chip.specs.Commands.{ChipState}
+use Rattle.envy_bank.specs.Commands.{ChipState}
 use Rattle.envy_bank.specs.Lanes.{lane_of, anded}
 use Rattle.envy_bank.proofs.LaneLoops.{Begun}
 use Rattle.envy_bank.proofs.lanes.program_lanes.Given as goal

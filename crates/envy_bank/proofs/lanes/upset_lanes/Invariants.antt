@@ -1,4 +1,4 @@
-use Rattle.envy_chip.specs.Commands.{upset_at}
+use Rattle.envy_bank.specs.Commands.{upset_at}
 use Rattle.envy_bank.specs.Lanes.{lane_of}
 use Rattle.envy_bank.proofs.LaneLoops.{Begun}
 use Rattle.envy_bank.proofs.lanes.upset_lanes.Given as goal

@@ -1,6 +1,6 @@
 use Rattle.std.proofs.Common.{◌≡◌, ◌∙◌, sym, refl, ap, subst, arith, ◌<◌, ◌+◌, ◌*◌, length}
 use Rattle.std.proofs.lemmas.Nat.{mul-add-lt}
-use Rattle.envy_power.specs.Draws.{seeded, next_word}
+use Rattle.envy_bench.specs.Draws.{seeded, next_word}
 use Rattle.envy_bank.specs.Rows.{BankState, with_row}
 use Rattle.envy_bench.specs.TornRows.{after_steps, next_words, torn_row}
 use Rattle.envy_bench.proofs.Draws.{after_none}

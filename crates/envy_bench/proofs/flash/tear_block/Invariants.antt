@@ -1,5 +1,5 @@
 use Rattle.std.proofs.Common.{◌≡◌, ◌*◌}
-use Rattle.envy_power.specs.Draws.{seeded, next_word}
+use Rattle.envy_bench.specs.Draws.{seeded, next_word}
 use Rattle.envy_bank.specs.Rows.{IsBank}
 use Rattle.envy_bench.specs.TornRows.{after_steps}
 use Rattle.envy_bench.proofs.Tears.{TearsUpTo}

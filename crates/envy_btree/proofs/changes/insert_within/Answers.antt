@@ -1,5 +1,5 @@
 use Rattle.std.proofs.Common.{◌+◌, ◌*◌, ◌∙◌, arith, length}
-use Rattle.envy_base.proofs.Working.{Spends-then, Spends-trans}
+use Rattle.envy_array.proofs.Working.{Spends-then, Spends-trans}
 use Rattle.envy_btree.specs.Depths.{insertion_puts}
 use Rattle.envy_btree.specs.Pairs.{with_pair}
 use Rattle.envy_btree.proofs.Withins.{pairs-counted, within-few, within-room, within-index, within-planted, pages-in}

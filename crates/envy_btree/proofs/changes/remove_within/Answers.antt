@@ -1,5 +1,5 @@
 use Rattle.std.proofs.Common.{◌+◌, ◌*◌, ◌∙◌, sym, arith, length}
-use Rattle.envy_base.proofs.Working.{Spends-then, Spends-trans}
+use Rattle.envy_array.proofs.Working.{Spends-then, Spends-trans}
 use Rattle.envy_btree.specs.Depths.{dropping_puts}
 use Rattle.envy_btree.specs.Pairs.{without}
 use Rattle.envy_btree.proofs.Withins.{within-index, within-planted, removed-count, removed-none, pages-in}

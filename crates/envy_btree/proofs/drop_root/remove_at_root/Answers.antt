@@ -7,8 +7,8 @@ use Rattle.envy_btree.specs.Changes.{Rests}
 use Rattle.envy_btree.proofs.Diving.{child-told}
 use Rattle.envy_btree.proofs.Descent.{Rests-within}
 use Rattle.envy_btree.proofs.Felling.{planted-uproots, planted-none, gone-ok, kept-ok, rests-fits}
-use Rattle.envy_base.specs.Words.{Works}
-use Rattle.envy_base.proofs.Working.{Works-trans, Works-more}
+use Rattle.envy_array.specs.Words.{Works}
+use Rattle.envy_array.proofs.Working.{Works-trans, Works-more}
 use Rattle.envy_btree.specs.declared.node.Node.{Node}
 use Rattle.envy_btree.proofs.Exits.{none-if, err-fails, off-fails, fails-after, no-works, zero-in}
 use Rattle.envy_btree.proofs.drop_root.remove_at_root.Goals as goal

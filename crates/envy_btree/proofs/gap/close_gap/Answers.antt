@@ -1,7 +1,7 @@
 use Rattle.std.proofs.Common.{◌∙◌}
 use Rattle.std.proofs.lemmas.Result.{on_ok_weaker}
 use Rattle.envy_btree.proofs.Gaps.{closed}
-use Rattle.envy_base.proofs.Working.{Works-trans}
+use Rattle.envy_array.proofs.Working.{Works-trans}
 use Rattle.envy_btree.proofs.gap.close_gap.Goals as goal
 
 pub returns-clause-gap : goal.returns-clause-gap

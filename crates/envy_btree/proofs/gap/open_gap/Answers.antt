@@ -2,7 +2,7 @@ use Rattle.std.proofs.Common.{◌∙◌, ◌+◌, ◌-◌, arith, ap, length}
 use Rattle.std.proofs.lemmas.Result.{on_ok_weaker}
 use Rattle.envy_btree.proofs.Gaps.{opened, window-long}
 use Rattle.envy_btree.proofs.Gapped.{spends-list}
-use Rattle.envy_base.proofs.Working.{Works-trans}
+use Rattle.envy_array.proofs.Working.{Works-trans}
 use Rattle.envy_btree.proofs.gap.open_gap.Goals as goal
 
 pub returns-clause-gap : goal.returns-clause-gap

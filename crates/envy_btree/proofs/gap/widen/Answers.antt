@@ -1,7 +1,7 @@
 use Rattle.std.proofs.Common.{◌+◌, ◌*◌, subst, arith}
 use Rattle.std.specs.List.{insert}
 use Rattle.std.proofs.lemmas.Result.{on_ok_weaker}
-use Rattle.envy_base.proofs.Working.{Spends-then, Spends-trans}
+use Rattle.envy_array.proofs.Working.{Spends-then, Spends-trans}
 use Rattle.envy_heap.proofs.Heaps.{one-le}
 use Rattle.envy_btree.specs.Tree.{Shows}
 use Rattle.envy_btree.specs.Spots.{keys_at, slots_at}

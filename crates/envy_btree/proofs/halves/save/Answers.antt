@@ -1,7 +1,7 @@
 use Rattle.std.proofs.Common.{ℕ, ◌<◌, ◌≤◌, ◌∙◌, sym, subst, arith, length, Ok, Option}
 use Rattle.envy_heap.specs.Pieces.{TakesAs, at, one}
 use Rattle.envy_heap.proofs.Heaps.{exhausted-spare}
-use Rattle.envy_base.proofs.Working.{Works-trans}
+use Rattle.envy_array.proofs.Working.{Works-trans}
 use Rattle.envy_btree.specs.Tree.{Shows}
 use Rattle.envy_btree.proofs.Exits.{err-fails, fails-after, no-works, more-works, room-left, room-less}
 use Rattle.envy_btree.proofs.Holding.{saved-failed}

@@ -1,5 +1,5 @@
 use Rattle.std.proofs.Common.{◌∙◌, length}
-use Rattle.envy_base.proofs.Working.{Works-trans}
+use Rattle.envy_array.proofs.Working.{Works-trans}
 use Rattle.envy_btree.proofs.Exits.{none-if, err-fails, fails-after, room-left, room-less, more-works}
 use Rattle.envy_btree.proofs.halves.write_halves.Goals as goal
 

@@ -1,5 +1,5 @@
 use Rattle.std.proofs.Common.{◌+◌, ◌-◌, ◌*◌, arith, ◌∙◌}
-use Rattle.envy_base.proofs.Working.{Works-trans, Works-more, Spends-trans, Spends-then}
+use Rattle.envy_array.proofs.Working.{Works-trans, Works-more, Spends-trans, Spends-then}
 use Rattle.envy_btree.proofs.Descent.{Rests-within, Rests-few}
 use Rattle.envy_btree.proofs.Spotting.{Rests-climbs}
 use Rattle.envy_btree.proofs.Stepping.{place-few, step-made, step-same, step-parts, step-grows, stop-made, stop-grows, slot-fits32}

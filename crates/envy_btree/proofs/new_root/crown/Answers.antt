@@ -2,7 +2,7 @@ use Rattle.std.proofs.Common.{ℕ, ◌+◌, ◌≤◌, ◌∙◌, length, sym, s
 use Rattle.envy_heap.specs.Pieces.{TakesAs, one}
 use Rattle.envy_heap.proofs.Heaps.{exhausted-spare}
 use Rattle.envy_btree.proofs.Planting.{crown-ok}
-use Rattle.envy_base.proofs.Working.{Works-trans}
+use Rattle.envy_array.proofs.Working.{Works-trans}
 use Rattle.envy_btree.proofs.Exits.{none-if, err-fails, fails-after, no-works, room-left, put-ends, zero-in}
 use Rattle.envy_btree.proofs.Planting.{taken-within}
 use Rattle.envy_btree.proofs.new_root.crown.Goals as goal

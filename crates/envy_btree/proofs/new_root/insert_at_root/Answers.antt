@@ -2,7 +2,7 @@ use Rattle.std.proofs.Common.{◌≢◌, ◌+◌, ◌-◌, ◌*◌, ◌≤◌, �
 use Rattle.envy_heap.specs.Pieces.{IsHeap, spare}
 use Rattle.envy_btree.specs.Changes.{Way, Grows, Crowned}
 use Rattle.envy_btree.proofs.Planting.{planted-enters, planted-spare, first-ok, crowned-ok, way-fits}
-use Rattle.envy_base.proofs.Working.{Works-trans, Works-more}
+use Rattle.envy_array.proofs.Working.{Works-trans, Works-more}
 use Rattle.envy_btree.proofs.Exits.{none-if, err-fails, off-fails, fails-after, no-works, zero-in}
 use Rattle.envy_btree.proofs.new_root.insert_at_root.Goals as goal
 

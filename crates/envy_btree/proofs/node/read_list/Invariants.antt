@@ -1,6 +1,6 @@
 use Rattle.std.proofs.Common.{◌≡◌, IsTrue}
 use Rattle.arrayvec.specs.ArrayVec.{array_vec_len}
-use Rattle.envy_base.specs.Words.{Spends, Works}
+use Rattle.envy_array.specs.Words.{Spends, Works}
 use Rattle.envy_btree.specs.Tree.{window}
 use Rattle.envy_btree.proofs.node.read_list.Given as goal
 

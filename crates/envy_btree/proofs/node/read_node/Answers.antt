@@ -1,7 +1,7 @@
 use Rattle.std.proofs.Common.{◌+◌, ◌/◌, ◌%◌, ◌==◌, ◌∙◌, ap, ap₂, length, get_or}
 use Rattle.envy_heap.specs.Pieces.{head, at}
 use Rattle.envy_btree.specs.Tree.{window}
-use Rattle.envy_base.proofs.Working.{Works-trans}
+use Rattle.envy_array.proofs.Working.{Works-trans}
 use Rattle.envy_btree.proofs.Exits.{none-if, err-power, head-within}
 use Rattle.envy_btree.proofs.Exits.{mul-fits, head-fits, keys-fit, slots-fit, keys-read, slots-read, keys-read-few, slots-read-few}
 use Rattle.envy_btree.proofs.node.read_node.Goals as goal

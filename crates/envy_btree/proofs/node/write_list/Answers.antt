@@ -1,7 +1,7 @@
 use Rattle.std.proofs.Common.{◌≡◌, ◌+◌, ◌/◌, ◌∙◌, ap, subst, get_or, set, arith}
 use Rattle.std.proofs.lemmas.List.Edits.{paste_more}
-use Rattle.envy_base.specs.Words.{OnPage}
-use Rattle.envy_base.proofs.Working.{on_from, OnPage-room, OnPage-trans, Spends-trans, Spends-then}
+use Rattle.envy_array.specs.Words.{OnPage}
+use Rattle.envy_array.proofs.Working.{on_from, OnPage-room, OnPage-trans, Spends-trans, Spends-then}
 use Rattle.envy_btree.proofs.node.write_list.Goals as goal
 
 pub put-requires-clause-room : goal.put-requires-clause-room

@@ -1,5 +1,5 @@
 use Rattle.std.proofs.Common.{◌≡◌, ◌/◌, IsTrue}
-use Rattle.envy_base.specs.Words.{OnPage, Spends}
+use Rattle.envy_array.specs.Words.{OnPage, Spends}
 use Rattle.envy_btree.specs.Nodes.{pasted}
 use Rattle.envy_btree.proofs.node.write_list.Given as goal
 

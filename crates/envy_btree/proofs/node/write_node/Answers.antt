@@ -1,6 +1,6 @@
 use Rattle.std.proofs.Common.{◌+◌, ◌*◌, ◌/◌, ◌∙◌, ap, sym, subst, arith, length, refl}
-use Rattle.envy_base.proofs.Working.{Works-trans}
-use Rattle.envy_base.specs.Words.{OnPage}
+use Rattle.envy_array.proofs.Working.{Works-trans}
+use Rattle.envy_array.specs.Words.{OnPage}
 use Rattle.envy_heap.specs.Pieces.{head, at, one}
 use Rattle.envy_btree.specs.Tree.{Shows}
 use Rattle.envy_btree.specs.Nodes.{pasted, OnlyPiece}

@@ -1,5 +1,5 @@
 use Rattle.std.proofs.Common.{◌+◌, ◌++◌, ◌∙◌, ap, sym, subst, arith, length, get_or, refl}
-use Rattle.envy_base.proofs.Working.{Works-trans, Works-more}
+use Rattle.envy_array.proofs.Working.{Works-trans, Works-more}
 use Rattle.envy_btree.specs.Changes.{HasPair}
 use Rattle.envy_btree.proofs.Exits.{none-if, off-fails, fails-after, room-left, same-few}
 use Rattle.envy_btree.proofs.Neighbours.{second-slot, second-within, piece-fits, beside-few, beside-read, both-few, joined-few, slots-one, mended-read, joined-is}

@@ -1,5 +1,5 @@
 use Rattle.std.proofs.Common.{◌≡◌, ◌+◌, ◌∙◌, sym, subst, arith, length, get_or, refl, List, ℕ, inl}
-use Rattle.envy_base.proofs.Working.{Works-trans, Works-more}
+use Rattle.envy_array.proofs.Working.{Works-trans, Works-more}
 use Rattle.envy_heap.specs.Pieces.{IsHeap, handed, Freed, one}
 use Rattle.envy_heap.proofs.Heaps.{Chain-one}
 use Rattle.envy_btree.specs.Tree.{Shows}

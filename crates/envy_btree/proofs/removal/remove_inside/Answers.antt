@@ -2,7 +2,7 @@ use Rattle.std.proofs.Common.{◌+◌, ◌*◌, arith, inr, ◌∙◌, length, s
 use Rattle.envy_btree.specs.Index.{IsPlanted}
 use Rattle.envy_btree.proofs.Planting.{planted-aside, shallow-aside}
 use Rattle.envy_btree.proofs.Felling.{removed-inside-ok}
-use Rattle.envy_base.proofs.Working.{Works-trans, Works-more}
+use Rattle.envy_array.proofs.Working.{Works-trans, Works-more}
 use Rattle.envy_btree.specs.Depths.{IsShallow}
 use Rattle.envy_btree.proofs.Exits.{none-if, put-fails, fails-after, third-in}
 use Rattle.envy_btree.proofs.removal.remove_inside.Goals as goal

@@ -1,6 +1,6 @@
 use Rattle.std.proofs.Common.{IfSome, ◌+◌, ◌-◌, ◌*◌, ◌∙◌, arith, subst}
-use Rattle.envy_base.specs.Words.{Works}
-use Rattle.envy_base.proofs.Working.{Works-trans, Works-more, Spends-trans, Spends-then}
+use Rattle.envy_array.specs.Words.{Works}
+use Rattle.envy_array.proofs.Working.{Works-trans, Works-more, Spends-trans, Spends-then}
 use Rattle.envy_btree.proofs.Descent.{Rests-within, Rests-few}
 use Rattle.envy_btree.proofs.Diving.{hand-more}
 use Rattle.envy_btree.proofs.Spotting.{Rests-climbs}

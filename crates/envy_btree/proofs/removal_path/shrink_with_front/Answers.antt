@@ -2,7 +2,7 @@ use Rattle.std.proofs.Common.{◌∙◌, ◌<◌, ◌++◌, length, sym, subst, 
 use Rattle.envy_heap.specs.Pieces.{at}
 use Rattle.envy_btree.specs.Changes.{joined_keys}
 use Rattle.envy_btree.proofs.Diving.{mended-back, hand-as}
-use Rattle.envy_base.proofs.Working.{Works-trans}
+use Rattle.envy_array.proofs.Working.{Works-trans}
 use Rattle.envy_btree.proofs.Exits.{none-if, err-fails, fails-after, more-works, room-left}
 use Rattle.envy_btree.proofs.Neighbours.{above-few, above-slots}
 use Rattle.envy_btree.proofs.removal_path.shrink_with_front.Goals as goal

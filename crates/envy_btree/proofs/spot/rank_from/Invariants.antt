@@ -1,5 +1,5 @@
 use Rattle.std.proofs.Common.{◌≡◌, ℕ, ◌+◌, ◌-◌, ◌<◌, ◌≤◌, IsTrue, get_or}
-use Rattle.envy_base.specs.Words.{Spends, Works}
+use Rattle.envy_array.specs.Words.{Spends, Works}
 use Rattle.envy_btree.proofs.spot.rank_from.Given as goal
 
 abbrev pub invariant-loop-low : goal.invariant-loop-low

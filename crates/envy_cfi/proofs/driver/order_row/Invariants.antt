@@ -1,5 +1,5 @@
 use Rattle.std.proofs.Common.{◌≡◌, ◌≤◌, ◌<◌, ◌+◌, Ok, Some, length}
-use Rattle.envy_chip.specs.Commands.{ChipState}
+use Rattle.envy_bank.specs.Commands.{ChipState}
 use Rattle.envy_cfi.specs.Driving.{IsCalm, IsIdle, Tells}
 use Rattle.envy_cfi.proofs.Steps.{Going}
 use Rattle.envy_cfi.proofs.driver.order_row.Given as goal

@@ -1,5 +1,5 @@
 use Rattle.std.proofs.Common.{inr, arith, ◌+◌, ◌*◌, ap, ◌∙◌, subst, sym, set}
-use Rattle.envy_base.proofs.Working.{Works-trans, Works-more}
+use Rattle.envy_array.proofs.Working.{Works-trans, Works-more}
 use Rattle.envy_heap.specs.Pieces.{Freed}
 use Rattle.envy_heap.proofs.Heaps.{Freed-given}
 use Rattle.envy_heap.proofs.Loading.{begun_still, word_of_first, room_left}

@@ -1,5 +1,5 @@
 use Rattle.std.proofs.Common.{refl, ◌≡◌, ◌≢◌, ◌<◌, ◌+◌, ◌-◌, ◌*◌, ap, ◌∙◌, subst, sym, get_or, set, arith, length}
-use Rattle.envy_base.proofs.Working.{OnPage-trans, OnPage-room}
+use Rattle.envy_array.proofs.Working.{OnPage-trans, OnPage-room}
 use Rattle.envy_heap.specs.Pieces.{Takes, pieces}
 use Rattle.envy_heap.proofs.Loading.{loaded, begun_still, word_of_first, fewer}
 use Rattle.envy_heap.proofs.Heaps.{link-within, Takes-first, Takes-new, Exhausted}

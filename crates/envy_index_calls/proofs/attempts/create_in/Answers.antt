@@ -1,6 +1,7 @@
 use Rattle.std.proofs.Common.{◌≡◌, ap, sym, subst, ◌∙◌, ℕ, ◌≤◌, false, IsTrue, length}
 use Rattle.std.specs.Prelude.{Ok, Err, Result}
-use Rattle.envy_base.specs.Words.{Fails, Rose, Sheet}
+use Rattle.envy_array.specs.Words.{Fails, Sheet}
+use Rattle.envy_base.specs.Counting.{Rose}
 use Rattle.envy_base.specs.declared.board.Trouble.{Trouble}
 use Rattle.envy_range.specs.Ranges.{within}
 use Rattle.envy_btree.specs.declared.fault.ChangeFault.TheVariants.{Bad}

@@ -1,7 +1,7 @@
 use Rattle.std.proofs.Common.{◌≡◌, ap, sym, subst, ◌∙◌, ℕ, ◌+◌, ◌^◌, ◌≤◌, true, length, List, arith}
 use Rattle.std.specs.Prelude.{Ok, Err, Option}
-use Rattle.envy_base.specs.Words.{Sheet, Spends}
-use Rattle.envy_base.proofs.Working.{Spends-then}
+use Rattle.envy_array.specs.Words.{Sheet, Spends}
+use Rattle.envy_array.proofs.Working.{Spends-then}
 use Rattle.envy_range.specs.Lawful.{inside-long}
 use Rattle.envy_range.specs.Ranges.{within}
 use Rattle.envy_btree.specs.Depths.{dropping_puts, removal_pages}

@@ -1,6 +1,6 @@
 use Rattle.std.proofs.Common.{ℕ, ◌*◌, subst, arith}
 use Rattle.std.specs.Prelude.{◌&&◌}
-use Rattle.envy_base.specs.Words.{Spends}
+use Rattle.envy_array.specs.Words.{Spends}
 use Rattle.envy_base.specs.declared.page.TheConstants.{PAGE_WORDS}
 use Rattle.envy_memory.specs.Lawful.{words_long}
 use Rattle.envy_memory.specs.Sheets.{sheet_of}

@@ -1,6 +1,6 @@
 use Rattle.std.proofs.Common.{◌≡◌, ◌/◌, ◌∙◌, ap, sym, subst, set, arith}
-use Rattle.envy_base.specs.Words.{OnPage}
-use Rattle.envy_base.proofs.Working.{on_from, OnPage-room, OnPage-trans, Spends-trans}
+use Rattle.envy_array.specs.Words.{OnPage}
+use Rattle.envy_array.proofs.Working.{on_from, OnPage-room, OnPage-trans, Spends-trans}
 use Rattle.envy_index_calls.proofs.Blanking.{blanked-more}
 use Rattle.envy_index_calls.proofs.creation.blank.Goals as goal
 

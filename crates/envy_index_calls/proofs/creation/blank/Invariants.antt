@@ -1,5 +1,5 @@
 use Rattle.std.proofs.Common.{◌≡◌, IsTrue}
-use Rattle.envy_base.specs.Words.{OnPage, Spends}
+use Rattle.envy_array.specs.Words.{OnPage, Spends}
 use Rattle.envy_index_calls.specs.Indexed.{blanked_to}
 use Rattle.envy_index_calls.proofs.creation.blank.Given as goal
 

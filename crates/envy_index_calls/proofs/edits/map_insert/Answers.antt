@@ -1,6 +1,6 @@
 use Rattle.std.proofs.Common.{◌≡◌, ap, sym, subst, ◌∙◌, ℕ, List, refl, arith, true, length}
 use Rattle.std.specs.Prelude.{Some, Ok, Result}
-use Rattle.envy_base.specs.Words.{Sheet}
+use Rattle.envy_array.specs.Words.{Sheet}
 use Rattle.envy_btree.specs.Depths.{insertion_puts}
 use Rattle.envy_memory.specs.Sheets.{sheet_of}
 use Rattle.envy_btree.specs.Index.{IsIndex}

@@ -14,7 +14,7 @@ pub new-requires : goal.new-requires
 new-requires g c =
     let p = c.args.memory in
     let first = subst (HasFirst p.chart) c.if-has_first.false c.has_first.ensures in
-    let e = c.known.ensures in
+    let e = c.invariant_holds.ensures in
     lent-shut p e.magic e.version e.sound c.requires.on (held false p c.requires.array c.requires.on c.requires.alone first)
 
 pub returns-then-has_first-clause-first : goal.returns-then-has_first-clause-first

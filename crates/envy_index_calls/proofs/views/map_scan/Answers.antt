@@ -1,6 +1,6 @@
 use Rattle.std.proofs.Common.{◌≡◌, ap, sym, subst, ◌∙◌, ◌^◌, ◌≤◌, ℕ, List, length, drop, refl}
 use Rattle.std.specs.Prelude.{Some, Option}
-use Rattle.envy_base.specs.Words.{Sheet}
+use Rattle.envy_array.specs.Words.{Sheet}
 use Rattle.envy_memory.specs.Lawful.{lawful_sheet}
 use Rattle.envy_memory.specs.Sheets.{sheet_of}
 use Rattle.envy_range.specs.Ranges.{within}

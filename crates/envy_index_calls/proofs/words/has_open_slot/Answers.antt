@@ -1,5 +1,5 @@
 use Rattle.envy_map.specs.Fields.{chart}
-use Rattle.envy_layout.specs.Sound.{Sound, Slots}
+use Rattle.envy_soundness.specs.Sound.{Sound, Slots}
 use Rattle.envy_memory.proofs.Slots.{slot-low}
 use Rattle.envy_index_calls.proofs.words.has_open_slot.Goals as goal
 

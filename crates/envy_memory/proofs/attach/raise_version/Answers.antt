@@ -1,6 +1,6 @@
 use Rattle.std.proofs.Common.{◌∙◌, inl, inr, refl, sym}
 use Rattle.envy_map.specs.Fields.{chart}
-use Rattle.envy_flush.proofs.FlushLemmas.{on-ok}
+use Rattle.envy_engine.proofs.FlushLemmas.{on-ok}
 use Rattle.envy_memory.proofs.AttachLemmas.{version-own, version-up}
 use Rattle.envy_memory.proofs.attach.raise_version.Goals as goal
 

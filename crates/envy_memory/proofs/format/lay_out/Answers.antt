@@ -1,8 +1,8 @@
 use Rattle.std.proofs.Common.{sym, subst}
 use Rattle.envy_base.specs.declared.shape.Shape.{Shape}
 use Rattle.envy_map.specs.Fields.{chart}
-use Rattle.envy_layout.specs.Formatting.{IsEmpty}
-use Rattle.envy_flush.specs.Agreement.{Fits}
+use Rattle.envy_soundness.specs.Formatting.{IsEmpty}
+use Rattle.envy_engine.specs.Agreement.{Fits}
 use Rattle.envy_memory.proofs.FormatLemmas.{empty-own, settled}
 use Rattle.envy_memory.proofs.format.lay_out.Goals as goal
 

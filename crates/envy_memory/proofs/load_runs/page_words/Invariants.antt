@@ -1,6 +1,6 @@
 use Rattle.std.proofs.Common.{◌≡◌, ℕ, ◌+◌, ◌<◌, length, slice_index, Some}
 use Rattle.envy_map.specs.Fields.{chart}
-use Rattle.envy_layout.specs.Words.{word_at}
+use Rattle.envy_soundness.specs.Words.{word_at}
 use Rattle.envy_memory.proofs.load_runs.page_words.Given as goal
 
 abbrev pub invariant-loop-i : goal.invariant-loop-i

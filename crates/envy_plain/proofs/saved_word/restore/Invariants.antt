@@ -1,5 +1,5 @@
 use Rattle.std.proofs.Common.{◌≡◌, take}
-use Rattle.envy_base.specs.Array.{put_back}
+use Rattle.envy_array.specs.Array.{put_back}
 use Rattle.envy_plain.specs.Fields.{saved_by}
 use Rattle.envy_plain.proofs.saved_word.restore.Given as goal
 

@@ -2,8 +2,8 @@ use Rattle.std.proofs.Common.{ap, arith}
 use Rattle.envy_base.specs.State.{IsBoard}
 use Rattle.envy_base.specs.declared.shape.Shape.{Shape}
 use Rattle.envy_map.specs.Fields.{chart}
-use Rattle.envy_layout.specs.Sound.{IsSpare}
-use Rattle.envy_layout.proofs.SpareLemmas.{some-spare}
+use Rattle.envy_soundness.specs.Sound.{IsSpare}
+use Rattle.envy_soundness.proofs.SpareLemmas.{some-spare}
 use Rattle.envy_reloc.proofs.settle.find_spare.Goals as goal
 
 pub unreachable-requires : goal.unreachable-requires

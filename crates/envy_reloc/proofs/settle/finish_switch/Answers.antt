@@ -5,12 +5,12 @@ use Rattle.envy_base.specs.declared.fields.Undo.{Undo}
 use Rattle.envy_base.specs.declared.fields.Undo.TheVariants.{Clear}
 use Rattle.envy_map.specs.Fields.{Fields, Chart, chart, undo}
 use Rattle.envy_map.specs.Writes.{with_job, with_position}
-use Rattle.envy_layout.specs.Jobs.{IsClear}
-use Rattle.envy_layout.specs.Same.{Same, Stays, Framed}
-use Rattle.envy_layout.specs.Sound.{Sound, Slots, Numbers, IsSpare}
-use Rattle.envy_layout.proofs.Composition.{Same-refl}
-use Rattle.envy_layout.proofs.JobLaw.{AreHome-freed}
-use Rattle.envy_layout.proofs.Sames.{then_same}
+use Rattle.envy_soundness.specs.Jobs.{IsClear}
+use Rattle.envy_soundness.specs.Same.{Same, Stays, Framed}
+use Rattle.envy_soundness.specs.Sound.{Sound, Slots, Numbers, IsSpare}
+use Rattle.envy_soundness.proofs.Composition.{Same-refl}
+use Rattle.envy_soundness.proofs.JobLaw.{AreHome-freed}
+use Rattle.envy_soundness.proofs.Sames.{then_same}
 use Rattle.envy_reloc.specs.Switching.{SwitchesRows}
 use Rattle.envy_reloc.proofs.SettleLemmas.{ok-map, KeepsOthers-trans, keeps-written, parted-clear, IsClear-kept, Finishes-made}
 use Rattle.envy_reloc.proofs.Exits.{none-if, none-power}

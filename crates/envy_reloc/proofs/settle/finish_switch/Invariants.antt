@@ -1,8 +1,8 @@
 use Rattle.std.proofs.Common.{◌≡◌}
 use Rattle.std.specs.Prelude.{IsTrue}
 use Rattle.envy_map.specs.Fields.{chart}
-use Rattle.envy_layout.specs.Naming.{AreParted}
-use Rattle.envy_layout.specs.Same.{Same}
+use Rattle.envy_soundness.specs.Naming.{AreParted}
+use Rattle.envy_soundness.specs.Same.{Same}
 use Rattle.envy_reloc.specs.Settling.{KeepsOthers}
 use Rattle.envy_reloc.specs.Switching.{SwitchesRows}
 use Rattle.envy_reloc.proofs.settle.finish_switch.Given as goal

@@ -1,5 +1,5 @@
 use Rattle.std.proofs.Common.{refl}
-use Rattle.envy_base.specs.Step.{Abort as DoAbort, Closed as IsClosed, Done as IsDone}
+use Rattle.envy_array.specs.Step.{Abort as DoAbort, Closed as IsClosed, Done as IsDone}
 use Rattle.envy_run.proofs.Replying.{says-steps}
 use Rattle.envy_run.proofs.answers.abort.Goals as goal
 

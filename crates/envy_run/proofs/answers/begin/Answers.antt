@@ -1,5 +1,5 @@
 use Rattle.std.proofs.Common.{[], ◌∷◌, refl, ap}
-use Rattle.envy_base.specs.Step.{Begin as DoBegin, Busy as IsBusy, Started as IsStarted}
+use Rattle.envy_array.specs.Step.{Begin as DoBegin, Busy as IsBusy, Started as IsStarted}
 use Rattle.envy_memory.specs.Picture.{Picture}
 use Rattle.envy_trace.specs.declared.line.Line.TheVariants.{Begin}
 use Rattle.envy_trace.specs.declared.reply.Reply.TheVariants.{Busy, Lost, Started}

@@ -1,5 +1,5 @@
 use Rattle.std.proofs.Common.{refl}
-use Rattle.envy_base.specs.Step.{Closed as IsClosed, Commit as DoCommit, Done as IsDone}
+use Rattle.envy_array.specs.Step.{Closed as IsClosed, Commit as DoCommit, Done as IsDone}
 use Rattle.envy_run.proofs.Replying.{says-steps}
 use Rattle.envy_run.proofs.answers.commit.Goals as goal
 

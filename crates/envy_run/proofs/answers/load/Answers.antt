@@ -1,4 +1,4 @@
-use Rattle.envy_base.specs.Step.{Load as DoLoad, Range as IsRange, Word as IsWord}
+use Rattle.envy_array.specs.Step.{Load as DoLoad, Range as IsRange, Word as IsWord}
 use Rattle.envy_run.proofs.Replying.{says-steps}
 use Rattle.envy_run.proofs.answers.load.Goals as goal
 

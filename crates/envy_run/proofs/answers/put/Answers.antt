@@ -1,5 +1,5 @@
 use Rattle.std.proofs.Common.{[], ◌∷◌, ◌/◌, refl}
-use Rattle.envy_base.specs.Step.{Closed as IsClosed, Done as IsDone, Full as IsFull, Held as IsHeld, Put as DoPut, Range as IsRange}
+use Rattle.envy_array.specs.Step.{Closed as IsClosed, Done as IsDone, Full as IsFull, Held as IsHeld, Put as DoPut, Range as IsRange}
 use Rattle.envy_memory.specs.Below.{flush_erases, flush_programs}
 use Rattle.envy_trace.specs.declared.line.Line.TheVariants.{Put}
 use Rattle.envy_trace.specs.declared.reply.Reply.TheVariants.{Closed, Done, Fault, Full, Held, Lost, Range}

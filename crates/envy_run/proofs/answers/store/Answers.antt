@@ -1,5 +1,5 @@
 use Rattle.std.proofs.Common.{[], ◌∷◌, ◌/◌, refl}
-use Rattle.envy_base.specs.Step.{Done as IsDone, Held as IsHeld, Range as IsRange, Store as DoStore}
+use Rattle.envy_array.specs.Step.{Done as IsDone, Held as IsHeld, Range as IsRange, Store as DoStore}
 use Rattle.envy_memory.specs.Below.{flush_erases, flush_programs}
 use Rattle.envy_trace.specs.declared.line.Line.TheVariants.{Store}
 use Rattle.envy_trace.specs.declared.reply.Reply.TheVariants.{Done, Fault, Held, Lost, Range}

@@ -1,6 +1,6 @@
 use Rattle.std.proofs.Common.{[], ◌∷◌, refl}
-use Rattle.envy_base.specs.Step.{Done as IsDone, Tick as DoTick}
-use Rattle.envy_flush.specs.Ticks.{CountsTick}
+use Rattle.envy_array.specs.Step.{Done as IsDone, Tick as DoTick}
+use Rattle.envy_engine.specs.Ticks.{CountsTick}
 use Rattle.envy_trace.specs.declared.line.Line.TheVariants.{Tick}
 use Rattle.envy_trace.specs.declared.reply.Reply.TheVariants.{Done, Fault, Lost}
 use Rattle.envy_run.proofs.Noting.{notes-counted, notes-rest, tick-swaps}

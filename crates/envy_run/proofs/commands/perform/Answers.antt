@@ -58,11 +58,11 @@ returns-in-Tpca-clause-told g c = λ kind.
     let io : Streams = record { from = feed; feed = feed; to = g.K.Sink.drain c.args.sink.now; sink = g.K.Sink.drain c.run_tpca.new.sink } in
     subst (λ (x : Command). TellsAll (Ok x) o io) (sym c.in-Tpca.is) (c.run_tpca.ensures.told kind feed)
 
-pub returns-in-Segments-clause-headline : goal.returns-in-Segments-clause-headline
-returns-in-Segments-clause-headline g c =
+pub returns-in-Map-clause-headline : goal.returns-in-Map-clause-headline
+returns-in-Map-clause-headline g c =
     let o : Outcome = outcome_of g.M.Made.Board.state c.run_map.result in
     let io : Streams = record { from = g.S.Source.feed c.args.source.now; feed = g.S.Source.feed c.run_map.new.source; to = g.K.Sink.drain c.args.sink.now; sink = g.K.Sink.drain c.run_map.new.sink } in
-    subst (λ (x : Command). Headline (Ok x) o io) (sym c.in-Segments.is) (inl c.run_map.ensures.maps)
+    subst (λ (x : Command). Headline (Ok x) o io) (sym c.in-Map.is) (inl c.run_map.ensures.maps)
 
 pub returns-in-Gen-clause-headline : goal.returns-in-Gen-clause-headline
 returns-in-Gen-clause-headline g c =

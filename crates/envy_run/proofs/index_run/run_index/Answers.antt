@@ -1,7 +1,7 @@
 use Rattle.std.proofs.Common.{ap, refl, sym, subst, arith}
-use Rattle.envy_base.specs.Array.{zeros}
+use Rattle.envy_array.specs.Array.{zeros}
 use Rattle.envy_io.specs.Taking.{Taking}
-use Rattle.envy_layout.specs.Sound.{IsSound}
+use Rattle.envy_soundness.specs.Sound.{IsSound}
 use Rattle.envy_map.specs.Fields.{chart}
 use Rattle.envy_memory.specs.Formats.{IsFresh}
 use Rattle.envy_memory.specs.Picture.{Picture}

@@ -2,7 +2,7 @@ use Rattle.std.proofs.Common.{sym}
 use Rattle.std.specs.Prelude.{[], ◌∷◌, ◌++◌, codes, decimal, Ok, Err}
 use Rattle.std.proofs.lemmas.Result.{err_from_is_err_and}
 use Rattle.envy_io.specs.Lines.{newline}
-use Rattle.envy_report.specs.Stat.{stat_bytes}
+use Rattle.envy_trace.specs.Stat.{stat_bytes}
 use Rattle.envy_run.specs.Drives.{named, sums_text}
 use Rattle.envy_run.proofs.Reporting.{then-more, then-none}
 use Rattle.envy_run.proofs.report.write_lines.Goals as goal

@@ -1,5 +1,5 @@
 use Rattle.std.proofs.Common.{inr, ap, sym, subst, ◌∙◌, arith}
-use Rattle.envy_base.specs.Area.{Fits}
+use Rattle.envy_array.specs.Area.{Fits}
 use Rattle.envy_base.specs.State.{IsMade}
 use Rattle.envy_base.specs.Shape.{IsShape}
 use Rattle.envy_base.specs.declared.shape.Shape.{Shape}

@@ -1,6 +1,6 @@
 use Rattle.std.proofs.Common.{◌∙◌, ap, Some}
 use Rattle.envy_base.specs.declared.fields.Undo.{Undo}
-use Rattle.envy_layout.specs.Sound.{Sound, Slots, slot_named}
+use Rattle.envy_soundness.specs.Sound.{Sound, Slots, slot_named}
 use Rattle.envy_space.proofs.rebuild.shadow_of.Goals as goal
 
 pub slot-requires-clause-decodes : goal.slot-requires-clause-decodes

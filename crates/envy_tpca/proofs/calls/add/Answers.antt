@@ -1,7 +1,7 @@
 use Rattle.std.proofs.Common.{◌∙◌, ◌≡◌, subst, ℕ}
 use Rattle.std.specs.Prelude.{slice_set, ◌+ℤ◌}
 use Rattle.envy_tpca.specs.Tpc.{as_word}
-use Rattle.envy_base.specs.Array.{page_of}
+use Rattle.envy_array.specs.Array.{page_of}
 use Rattle.envy_tpca.specs.Trying.{AfterPut}
 use Rattle.envy_tpca.proofs.Loading.{accessed-more, where-done}
 use Rattle.envy_tpca.proofs.Calling.{load-none, load-ok, added}

@@ -1,4 +1,4 @@
-use Rattle.envy_base.specs.Array.{page_of}
+use Rattle.envy_array.specs.Array.{page_of}
 use Rattle.envy_tpca.proofs.Loading.{accessed-one}
 use Rattle.envy_tpca.proofs.Calling.{load-done, load-never}
 use Rattle.envy_tpca.proofs.Since.{since-load}

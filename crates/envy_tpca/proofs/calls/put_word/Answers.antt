@@ -1,7 +1,7 @@
 use Rattle.std.proofs.Common.{ap, Err}
 use Rattle.std.proofs.lemmas.Result.{err_from_is_err_and}
-use Rattle.envy_flush.specs.Counts.{Counting}
-use Rattle.envy_base.specs.Array.{page_of}
+use Rattle.envy_engine.specs.Counts.{Counting}
+use Rattle.envy_array.specs.Array.{page_of}
 use Rattle.envy_tpca.proofs.Loading.{accessed-one}
 use Rattle.envy_tpca.proofs.Calling.{put-done, put-stopped}
 use Rattle.envy_tpca.proofs.Since.{since-works}

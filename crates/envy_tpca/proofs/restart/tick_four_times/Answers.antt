@@ -1,9 +1,9 @@
 use Rattle.std.proofs.Common.{refl, ap}
-use Rattle.envy_flush.specs.Counts.{Counting}
-use Rattle.envy_flush.specs.Ticks.{CountsTick}
-use Rattle.envy_layout.specs.Words.{durable}
+use Rattle.envy_engine.specs.Counts.{Counting}
+use Rattle.envy_engine.specs.Ticks.{CountsTick}
+use Rattle.envy_soundness.specs.Words.{durable}
 use Rattle.envy_memory.specs.Calls.{fresh}
-use Rattle.envy_base.specs.declared.counts.Counts.{Counts}
+use Rattle.envy_array.specs.declared.counts.Counts.{Counts}
 use Rattle.envy_table.specs.Hits.{Rests as CacheRests}
 use Rattle.envy_tpca.proofs.Loading.{accessed-more, accessed-none, accessed-same, done-always}
 use Rattle.envy_tpca.proofs.Between.{tick-done, tick-bad, tick-off}

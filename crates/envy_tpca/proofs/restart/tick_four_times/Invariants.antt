@@ -1,4 +1,4 @@
-use Rattle.envy_layout.specs.Words.{durable}
+use Rattle.envy_soundness.specs.Words.{durable}
 use Rattle.envy_tpca.specs.Loading.{Accessed}
 use Rattle.envy_tpca.specs.Since.{Since}
 use Rattle.envy_tpca.specs.Trying.{Rests}

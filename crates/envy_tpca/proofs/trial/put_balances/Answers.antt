@@ -1,6 +1,6 @@
 use Rattle.std.proofs.Common.{arith}
 use Rattle.std.specs.Prelude.{slice_set}
-use Rattle.envy_base.specs.Array.{page_of, put_back}
+use Rattle.envy_array.specs.Array.{page_of, put_back}
 use Rattle.envy_tpca.specs.Tpc.{deltas_of}
 use Rattle.envy_tpca.specs.Trial.{balances_of}
 use Rattle.envy_tpca.proofs.Loading.{accessed-more, where-done}

@@ -2,7 +2,7 @@ use Rattle.std.proofs.Common.{arith, ◌+◌, ◌∙◌, ap, sym}
 use Rattle.std.proofs.Common.{w64}
 use Rattle.std.specs.Int.{cast_unsigned}
 use Rattle.std.specs.Prelude.{slice_set}
-use Rattle.envy_base.specs.Array.{page_of, put_back}
+use Rattle.envy_array.specs.Array.{page_of, put_back}
 use Rattle.envy_tpca.specs.Trial.{row_of}
 use Rattle.envy_tpca.proofs.Loading.{accessed-more, where-done}
 use Rattle.envy_tpca.proofs.Calling.{put-ok, put-err}

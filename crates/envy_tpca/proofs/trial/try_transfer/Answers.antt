@@ -1,6 +1,6 @@
 use Rattle.std.proofs.Common.{ℕ, List, arith, ◌+◌, ◌∙◌, ap, sym, subst}
 use Rattle.std.specs.Prelude.{slice_set}
-use Rattle.envy_base.specs.Array.{page_of, put_back}
+use Rattle.envy_array.specs.Array.{page_of, put_back}
 use Rattle.envy_tpca.specs.Trial.{balances_of, row_of, writes, IsTried}
 use Rattle.envy_tpca.specs.Trying.{AfterTry}
 use Rattle.envy_tpca.proofs.Loading.{accessed-more, where-done}

@@ -1,8 +1,8 @@
 use Rattle.std.proofs.Common.{◌≡◌, refl, ℕ, ◌<◌, List, get_or, take, Some, sym, ◌∙◌, ap, subst}
 use Rattle.std.proofs.lemmas.List.{take_more, take_all}
 use Rattle.envy_map.specs.Fields.{chart, undo}
-use Rattle.envy_layout.specs.Sound.{Sound, Slots, slot_named}
-use Rattle.envy_layout.proofs.Composition.{SameWords-refl, SameWords-trans}
+use Rattle.envy_soundness.specs.Sound.{Sound, Slots, slot_named}
+use Rattle.envy_soundness.proofs.Composition.{SameWords-refl, SameWords-trans}
 use Rattle.envy_txn.specs.declared.pair.Pair.{Pair}
 use Rattle.envy_txn.specs.Turns.{Releasing, ReleasedIn}
 use Rattle.envy_txn.proofs.ReleaseLoop.{ReleasedIn-none, ReleasedIn-more}

@@ -1,6 +1,6 @@
 use Rattle.std.proofs.Common.{◌≡◌, take}
 use Rattle.envy_map.specs.Fields.{chart}
-use Rattle.envy_layout.specs.Same.{SameWords}
+use Rattle.envy_soundness.specs.Same.{SameWords}
 use Rattle.envy_txn.specs.Turns.{Releasing, ReleasedIn}
 use Rattle.envy_txn.proofs.release.release_pairs.Given as goal
 

@@ -1,10 +1,10 @@
 use Rattle.std.proofs.Common.{Some, refl, sym, ◌∙◌, ap}
 use Rattle.envy_frames.specs.Order.{Order}
 use Rattle.envy_map.specs.Fields.{chart}
-use Rattle.envy_layout.specs.Same.{SameDurable}
-use Rattle.envy_layout.specs.Sound.{Sound, Places, Slots, slot_named, owned_by}
-use Rattle.envy_layout.proofs.Composition.{SameDurable-refl}
-use Rattle.envy_layout.proofs.KeptLemmas.{owned_by-active}
+use Rattle.envy_soundness.specs.Same.{SameDurable}
+use Rattle.envy_soundness.specs.Sound.{Sound, Places, Slots, slot_named, owned_by}
+use Rattle.envy_soundness.proofs.Composition.{SameDurable-refl}
+use Rattle.envy_soundness.proofs.KeptLemmas.{owned_by-active}
 use Rattle.envy_space.specs.Pool.{Pool}
 use Rattle.envy_table.proofs.HitLemmas.{Rests-refl}
 use Rattle.envy_txn.specs.Turns.{Restoring}

@@ -2,8 +2,8 @@ use Rattle.std.proofs.Common.{◌≡◌, ℕ, ◌<◌, List, get_or, take, Some,
 use Rattle.std.specs.List.{filter}
 use Rattle.std.proofs.lemmas.List.{take_more, take_all}
 use Rattle.envy_map.specs.Fields.{chart, undo}
-use Rattle.envy_layout.specs.Sound.{Sound, Slots, Places, slot_named}
-use Rattle.envy_layout.proofs.Composition.{SameDurable-refl, SameDurable-trans}
+use Rattle.envy_soundness.specs.Sound.{Sound, Slots, Places, slot_named}
+use Rattle.envy_soundness.proofs.Composition.{SameDurable-refl, SameDurable-trans}
 use Rattle.envy_table.proofs.HitLemmas.{Rests-refl, Rests-trans}
 use Rattle.envy_txn.specs.declared.pair.Pair.{Pair}
 use Rattle.envy_txn.specs.Turns.{Restoring, RestoredIn}

@@ -1,7 +1,7 @@
 use Rattle.std.proofs.Common.{◌≡◌, not, take}
 use Rattle.std.specs.List.{filter}
 use Rattle.envy_map.specs.Fields.{chart}
-use Rattle.envy_layout.specs.Same.{SameDurable}
+use Rattle.envy_soundness.specs.Same.{SameDurable}
 use Rattle.envy_table.specs.Hits.{Rests}
 use Rattle.envy_txn.specs.Turns.{Restoring, RestoredIn, is_among}
 use Rattle.envy_txn.proofs.restore.restore_pairs.Given as goal

@@ -2,8 +2,8 @@ use Rattle.std.proofs.Common.{Some, ◌∙◌, ap}
 use Rattle.envy_base.specs.declared.fields.Undo.TheVariants.{Clear}
 use Rattle.envy_map.specs.Fields.{Chart, chart, with_fields}
 use Rattle.envy_map.specs.Writes.{with_undo}
-use Rattle.envy_layout.specs.Same.{SameDurable}
-use Rattle.envy_layout.proofs.Composition.{SameDurable-trans, SameDurable-words}
+use Rattle.envy_soundness.specs.Same.{SameDurable}
+use Rattle.envy_soundness.proofs.Composition.{SameDurable-trans, SameDurable-words}
 use Rattle.envy_txn.proofs.WayLemmas.{none-done, off-of}
 use Rattle.envy_txn.proofs.undos.put_back.Goals as goal
 

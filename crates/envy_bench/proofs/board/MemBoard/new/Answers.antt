@@ -1,6 +1,7 @@
 use Rattle.std.proofs.Common.{◌∙◌, ◌*◌, ℕ, List, ap, length}
 use Rattle.std.proofs.lemmas.List.{length-replicate}
-use Rattle.envy_bank.specs.Rows.{BankState, ones}
+use Rattle.envy_base.specs.State.{ones}
+use Rattle.envy_bank.specs.Rows.{BankState}
 use Rattle.envy_bench.proofs.Boards.{IsPage-whole, AreWords-zeros}
 use Rattle.envy_bench.proofs.board.MemBoard.new.Goals as goal
 

@@ -1,5 +1,5 @@
 use Rattle.std.proofs.Common.{◌≡◌, ◌∙◌, ap, sym, List, ℕ}
-use Rattle.envy_power.specs.Draws.{seeded, next_word}
+use Rattle.envy_bench.specs.Draws.{seeded, next_word}
 use Rattle.envy_bank.specs.Rows.{BankState, with_row}
 use Rattle.envy_bench.specs.TornRows.{next_words, torn_row}
 use Rattle.envy_bench.proofs.Draws.{after_none}

@@ -3,7 +3,7 @@ use Rattle.std.specs.List.{All}
 use Rattle.std.proofs.lemmas.List.Elements.{All-map}
 use Rattle.circular_buffer.specs.Buffer.{Buffer}
 use Rattle.envy_map.specs.Fields.{chart}
-use Rattle.envy_layout.specs.Sound.{Sound}
+use Rattle.envy_soundness.specs.Sound.{Sound}
 use Rattle.envy_frames.specs.declared.entry.Entry.{Entry}
 use Rattle.envy_frames.specs.declared.held.Held.{Held}
 use Rattle.envy_frames.specs.Agreement.{AreHeld, held_by_default}

@@ -4,12 +4,12 @@ use Rattle.std.specs.Prelude.{IsTrue, ◌↔◌}
 use Rattle.std.proofs.lemmas.Result.{err_from_is_err_and}
 use Rattle.envy_base.specs.declared.fields.Slot.TheVariants.{Active}
 use Rattle.envy_map.specs.Fields.{chart, slot}
-use Rattle.envy_layout.specs.Same.{SameDurable}
-use Rattle.envy_layout.specs.Stands.{Stands}
-use Rattle.envy_layout.proofs.Composition.{cause}
-use Rattle.envy_layout.proofs.Ending.{Steps-abort, IsLost-abort, closed-past, closed-inactive}
-use Rattle.envy_flush.specs.Storing.{Rows}
-use Rattle.envy_flush.specs.declared.parts.Parts.{Parts}
+use Rattle.envy_soundness.specs.Same.{SameDurable}
+use Rattle.envy_meaning.specs.Stands.{Stands}
+use Rattle.envy_soundness.proofs.Composition.{cause}
+use Rattle.envy_meaning.proofs.Ending.{Steps-abort, IsLost-abort, closed-past, closed-inactive}
+use Rattle.envy_engine.specs.Storing.{Rows}
+use Rattle.envy_engine.specs.declared.parts.Parts.{Parts}
 use Rattle.envy_memory.specs.Calls.{IsCut, Undisturbed}
 use Rattle.envy_memory.specs.Picture.{Picture}
 use Rattle.envy_memory.specs.Below.{AbortsBelow, IsShut}
@@ -19,7 +19,7 @@ use Rattle.envy_memory.proofs.PutAnswers.{beyond-slots}
 use Rattle.envy_memory.proofs.EndAnswers.{Answer, unlit, off-open, shut-lit, done-open, done-lit, dark-off, lit-off, dark-closed, shut-closed, open-closed, still-cut, dark-complete, headed-same, IsMemory-headed, settled-closed, aborts-refused, aborts-ended, aborts-done}
 use Rattle.envy_memory.proofs.EndLemmas.{undisturbed-on}
 use Rattle.envy_wear.specs.Swaps.{IsQuiet}
-use Rattle.envy_flush.proofs.WearLemmas.{IsQuiet-still}
+use Rattle.envy_engine.proofs.WearLemmas.{IsQuiet-still}
 use Rattle.envy_memory.proofs.memory.Memory.abort.Goals as goal
 
 pub returns-in_err-abort_pages-clause-step : goal.returns-in_err-abort_pages-clause-step

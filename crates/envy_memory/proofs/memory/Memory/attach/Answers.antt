@@ -2,16 +2,16 @@ use Rattle.std.proofs.Common.{◌∙◌, inr, refl, sym, subst, ap}
 use Rattle.envy_base.specs.State.{IsBoard}
 use Rattle.envy_base.specs.declared.shape.Shape.{Shape}
 use Rattle.envy_map.specs.Fields.{chart}
-use Rattle.envy_layout.specs.Same.{Kept}
-use Rattle.envy_layout.proofs.Composition.{cause}
-use Rattle.envy_flush.specs.Agreement.{Fits, Ready}
-use Rattle.envy_flush.specs.declared.parts.Parts.{Parts}
+use Rattle.envy_soundness.specs.Same.{Kept}
+use Rattle.envy_soundness.proofs.Composition.{cause}
+use Rattle.envy_engine.specs.Agreement.{Fits, Ready}
+use Rattle.envy_engine.specs.declared.parts.Parts.{Parts}
 use Rattle.envy_policy.specs.Setup.{IsSetup}
 use Rattle.envy_txn.specs.Owners.{Ownership}
 use Rattle.envy_memory.specs.Attaching.{MayAttach}
 use Rattle.envy_memory.specs.Making.{StartsAnew}
 use Rattle.envy_memory.proofs.AttachLemmas.{Fits-attached, kept-shape, IsMemory-settled, IsStarted-anew, Stands-settled}
-use Rattle.envy_flush.proofs.WearLemmas.{IsQuiet-none}
+use Rattle.envy_engine.proofs.WearLemmas.{IsQuiet-none}
 use Rattle.envy_memory.proofs.memory.Memory.attach.Goals as goal
 
 pub take_up-requires-clause-fits : goal.take_up-requires-clause-fits

@@ -7,11 +7,11 @@ use Rattle.envy_base.specs.declared.fields.Slot.{Slot}
 use Rattle.envy_base.specs.declared.fields.Slot.TheVariants.{Active, Vacant, Committed}
 use Rattle.envy_map.specs.Fields.{Chart, chart, slot, with_fields}
 use Rattle.envy_map.specs.Writes.{with_slot}
-use Rattle.envy_layout.specs.Same.{SameWords}
-use Rattle.envy_layout.specs.Sound.{IsSound, Sound, Slots}
-use Rattle.envy_layout.specs.Stands.{Stands}
-use Rattle.envy_layout.proofs.Composition.{cause}
-use Rattle.envy_layout.proofs.Ending.{none-closed, IsLost-begin, Steps-begin}
+use Rattle.envy_soundness.specs.Same.{SameWords}
+use Rattle.envy_soundness.specs.Sound.{IsSound, Sound, Slots}
+use Rattle.envy_meaning.specs.Stands.{Stands}
+use Rattle.envy_soundness.proofs.Composition.{cause}
+use Rattle.envy_meaning.proofs.Ending.{none-closed, IsLost-begin, Steps-begin}
 use Rattle.envy_memory.proofs.Slots.{slot-low}
 use Rattle.envy_memory.specs.Below.{BeginsBelow, IsBusy}
 use Rattle.envy_memory.specs.Calls.{IsCut, Undisturbed}
@@ -21,7 +21,7 @@ use Rattle.envy_memory.specs.declared.faults.BeginFault.TheVariants.{Off, Busy}
 use Rattle.envy_memory.proofs.EndAnswers.{unlit, still-cut, dark-complete, Headed, headed-words, works-headed, works-still, IsMemory-headed, settled-set}
 use Rattle.envy_memory.proofs.EndLemmas.{undisturbed-on}
 use Rattle.envy_wear.specs.Swaps.{IsQuiet}
-use Rattle.envy_flush.proofs.WearLemmas.{IsQuiet-still}
+use Rattle.envy_engine.proofs.WearLemmas.{IsQuiet-still}
 use Rattle.envy_memory.proofs.memory.Memory.begin.Goals as goal
 
 abbrev Answer : Type 0

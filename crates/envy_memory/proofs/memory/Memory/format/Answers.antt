@@ -1,11 +1,11 @@
 use Rattle.std.proofs.Common.{◌∙◌, inr, refl, sym, subst, ap}
 use Rattle.envy_base.specs.declared.shape.Shape.{Shape}
 use Rattle.envy_map.specs.Fields.{chart}
-use Rattle.envy_layout.proofs.Composition.{cause}
-use Rattle.envy_flush.specs.Agreement.{Fits}
-use Rattle.envy_flush.specs.Starting.{started_parts}
-use Rattle.envy_flush.specs.declared.parts.Parts.{Parts}
-use Rattle.envy_flush.proofs.WearLemmas.{IsQuiet-none}
+use Rattle.envy_soundness.proofs.Composition.{cause}
+use Rattle.envy_engine.specs.Agreement.{Fits}
+use Rattle.envy_engine.specs.Starting.{started_parts}
+use Rattle.envy_engine.specs.declared.parts.Parts.{Parts}
+use Rattle.envy_engine.proofs.WearLemmas.{IsQuiet-none}
 use Rattle.envy_policy.specs.Setup.{IsSetup}
 use Rattle.envy_txn.specs.Owners.{Ownership}
 use Rattle.envy_memory.specs.Formats.{MayFormat}

@@ -20,7 +20,7 @@ returns-then-pages-left g c =
     ((λ e. absurd (false≢true e)), (λ lacking. absurd (few-pages c.args.t c.args.a c.args.n c.shape.result.shadows c.count.result c.pages_within-pages.result c.args.self.now shadows count few c.pages_within-pages.ensures c.if-pages-left.true lacking)))
 
 pub returns-then-t-ge64 : goal.returns-then-t-ge64
-returns-then-t-ge64 g c = ((λ e. absurd (false≢true e)), (λ lacking. absurd (beyond-slots c.args.self.now.chart c.args.t c.known.ensures.sound c.if-t-ge64.true lacking.1)))
+returns-then-t-ge64 g c = ((λ e. absurd (false≢true e)), (λ lacking. absurd (beyond-slots c.args.self.now.chart c.args.t c.invariant_holds.ensures.sound c.if-t-ge64.true lacking.1)))
 
 pub returns-in-Ok-true : goal.returns-in-Ok-true
 returns-in-Ok-true g c =

@@ -6,14 +6,14 @@ use Rattle.envy_base.specs.State.{State, IsBoard}
 use Rattle.envy_base.specs.declared.fields.Place.{Place}
 use Rattle.envy_base.specs.declared.fields.Place.TheVariants.{Absent, Row, Frame}
 use Rattle.envy_map.specs.Fields.{Chart, chart, place}
-use Rattle.envy_layout.specs.Sound.{Sound, Places, IsSound}
-use Rattle.envy_flush.specs.Pages.{InRange}
-use Rattle.envy_layout.specs.Stands.{Stands}
+use Rattle.envy_soundness.specs.Sound.{Sound, Places, IsSound}
+use Rattle.envy_engine.specs.Pages.{InRange}
+use Rattle.envy_meaning.specs.Stands.{Stands}
 use Rattle.envy_table.specs.Agreement.{AreCurrent}
 use Rattle.envy_table.specs.Entries.{Translations}
 use Rattle.envy_txn.specs.Owners.{Ownership}
-use Rattle.envy_flush.specs.Agreement.{Agrees}
-use Rattle.envy_flush.specs.declared.parts.Parts.{Parts}
+use Rattle.envy_engine.specs.Agreement.{Agrees}
+use Rattle.envy_engine.specs.declared.parts.Parts.{Parts}
 use Rattle.envy_memory.specs.Below.{LoadsBelow, IsPast}
 use Rattle.envy_memory.specs.Picture.{Picture, IsMemory}
 use Rattle.envy_memory.specs.declared.faults.LoadFault.{LoadFault}

@@ -1,5 +1,5 @@
 use Rattle.std.proofs.Common.{◌≡◌, ℕ, ◌+◌, ◌-◌, ◌/◌, ◌<◌, length, slice_index}
-use Rattle.envy_layout.specs.Words.{live}
+use Rattle.envy_soundness.specs.Words.{live}
 use Rattle.envy_memory.specs.LoadRuns.{Crosses}
 use Rattle.envy_memory.proofs.memory.Memory.load_pages.Given as goal
 

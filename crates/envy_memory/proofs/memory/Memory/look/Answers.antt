@@ -2,8 +2,8 @@ use Rattle.std.proofs.Common.{◌≡◌, refl, sym, get_or, subst, ap, ◌∙◌
 use Rattle.std.specs.Prelude.{Ok}
 use Rattle.envy_base.specs.declared.shape.Shape.{Shape}
 use Rattle.envy_map.specs.Fields.{chart}
-use Rattle.envy_layout.specs.Stands.{Stands}
-use Rattle.envy_layout.specs.Words.{durable}
+use Rattle.envy_meaning.specs.Stands.{Stands}
+use Rattle.envy_soundness.specs.Words.{durable}
 use Rattle.envy_memory.specs.Picture.{Picture}
 use Rattle.envy_memory.proofs.Standing.{beyond, inside, word-committed, word-durable}
 use Rattle.envy_memory.proofs.memory.Memory.look.Goals as goal

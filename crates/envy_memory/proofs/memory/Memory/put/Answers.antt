@@ -2,18 +2,18 @@ use Rattle.std.proofs.Common.{ℕ, ◌≡◌, ◌≢◌, ◌≤◌, false, IsTru
 use Rattle.std.proofs.lemmas.Bool.{false≢true}
 use Rattle.std.proofs.lemmas.Result.{err_from_is_err_and}
 use Rattle.envy_base.specs.declared.shape.Shape.{Shape}
-use Rattle.envy_base.specs.Array.{Array}
+use Rattle.envy_array.specs.Array.{Array}
 use Rattle.envy_map.specs.Fields.{chart, slot}
 use Rattle.std.specs.Prelude.{IsErrOf}
-use Rattle.envy_layout.specs.Stands.{Stands}
-use Rattle.envy_layout.proofs.Composition.{cause}
+use Rattle.envy_meaning.specs.Stands.{Stands}
+use Rattle.envy_soundness.proofs.Composition.{cause}
 use Rattle.envy_txn.specs.Owners.{owner_of}
-use Rattle.envy_layout.proofs.Ending.{closed-inactive, closed-past}
+use Rattle.envy_meaning.proofs.Ending.{closed-inactive, closed-past}
 use Rattle.envy_memory.proofs.Slots.{slot-low}
-use Rattle.envy_flush.specs.Storing.{Leaves}
-use Rattle.envy_flush.proofs.StoreLemmas.{Leaves-wrote}
-use Rattle.envy_layout.specs.Same.{Framed}
-use Rattle.envy_flush.proofs.Leaving.{powers_both}
+use Rattle.envy_engine.specs.Storing.{Leaves}
+use Rattle.envy_engine.proofs.StoreLemmas.{Leaves-wrote}
+use Rattle.envy_soundness.specs.Same.{Framed}
+use Rattle.envy_engine.proofs.Leaving.{powers_both}
 use Rattle.envy_wear.specs.Swaps.{IsQuiet}
 use Rattle.envy_memory.specs.Below.{PutsBelow}
 use Rattle.envy_memory.specs.Calls.{Works, IsCut, HasFailed, Undisturbed}
@@ -27,7 +27,7 @@ use Rattle.envy_memory.proofs.PutAnswers.{Refuses, beyond-slots, past-of, inside
 use Rattle.envy_memory.proofs.PutLemmas.{full-of, Meets, MeetsFree, is-open, counted-pairs, Puts-done, Puts-ended, Puts-again, Puts-again_ended, Counted-first, Works-first, IsMemory-first, owned-free}
 use Rattle.envy_memory.proofs.Standing.{beyond, inside}
 use Rattle.envy_memory.proofs.TickLemmas.{never-ended}
-use Rattle.envy_flush.proofs.WearLemmas.{IsQuiet-counted}
+use Rattle.envy_engine.proofs.WearLemmas.{IsQuiet-counted}
 use Rattle.envy_memory.proofs.memory.Memory.put.Given.{Over}
 use Rattle.envy_memory.proofs.memory.Memory.put.Goals.{After-owner, After-store_word, After-put_first}
 use Rattle.envy_memory.proofs.memory.Memory.put.Goals as goal

@@ -4,15 +4,15 @@ use Rattle.envy_base.specs.State.{State, lit as lit_state}
 use Rattle.envy_base.specs.Shape.{version_of}
 use Rattle.envy_base.specs.declared.shape.Shape.{Shape}
 use Rattle.envy_map.specs.Fields.{chart}
-use Rattle.envy_layout.specs.Same.{SameDurable}
-use Rattle.envy_layout.specs.Stands.{Stands}
-use Rattle.envy_layout.specs.Words.{durable}
-use Rattle.envy_layout.proofs.Composition.{cause}
+use Rattle.envy_soundness.specs.Same.{SameDurable}
+use Rattle.envy_meaning.specs.Stands.{Stands}
+use Rattle.envy_soundness.specs.Words.{durable}
+use Rattle.envy_soundness.proofs.Composition.{cause}
 use Rattle.envy_txn.specs.Owners.{Ownership}
 use Rattle.envy_memory.specs.Calls.{fresh}
 use Rattle.envy_memory.specs.Picture.{Picture}
 use Rattle.envy_memory.proofs.AttachLemmas.{IsMemory-settled, Stands-settled}
-use Rattle.envy_flush.proofs.WearLemmas.{IsQuiet-none}
+use Rattle.envy_engine.proofs.WearLemmas.{IsQuiet-none}
 use Rattle.envy_memory.proofs.memory.Memory.revive.Goals as goal
 
 pub returns-in_err-restart-clause-cut : goal.returns-in_err-restart-clause-cut

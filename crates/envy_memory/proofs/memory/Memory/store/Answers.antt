@@ -2,12 +2,12 @@ use Rattle.std.proofs.Common.{◌≡◌, IsTrue, None, ◌∙◌, ◌<◌, ◌*�
 use Rattle.std.proofs.lemmas.Result.{err_from_is_err_and}
 use Rattle.envy_base.specs.declared.shape.Shape.{Shape}
 use Rattle.envy_map.specs.Fields.{chart}
-use Rattle.envy_layout.specs.Same.{Framed}
-use Rattle.envy_layout.specs.Stands.{Stands}
-use Rattle.envy_layout.proofs.Composition.{cause}
-use Rattle.envy_flush.specs.Storing.{Leaves}
-use Rattle.envy_flush.proofs.StoreLemmas.{Leaves-wrote}
-use Rattle.envy_flush.proofs.Leaving.{powers_both}
+use Rattle.envy_soundness.specs.Same.{Framed}
+use Rattle.envy_meaning.specs.Stands.{Stands}
+use Rattle.envy_soundness.proofs.Composition.{cause}
+use Rattle.envy_engine.specs.Storing.{Leaves}
+use Rattle.envy_engine.proofs.StoreLemmas.{Leaves-wrote}
+use Rattle.envy_engine.proofs.Leaving.{powers_both}
 use Rattle.envy_txn.specs.Owners.{owner_of, AreOwned}
 use Rattle.envy_wear.specs.Swaps.{IsQuiet}
 use Rattle.envy_memory.specs.Below.{StoresBelow}
@@ -18,7 +18,7 @@ use Rattle.envy_memory.proofs.Below.{Worked, below-stored, below-store_ended}
 use Rattle.envy_memory.proofs.Owning.{IsMemory-left, Works-left, Stores-done, Stores-ended, owner-pairs, free-pairs}
 use Rattle.envy_memory.proofs.Standing.{beyond, inside}
 use Rattle.envy_memory.proofs.TickLemmas.{never-ended}
-use Rattle.envy_flush.proofs.WearLemmas.{IsQuiet-counted}
+use Rattle.envy_engine.proofs.WearLemmas.{IsQuiet-counted}
 use Rattle.envy_memory.proofs.memory.Memory.store.Given.{Over}
 use Rattle.envy_memory.proofs.memory.Memory.store.Goals.{After-store_word}
 use Rattle.envy_memory.proofs.memory.Memory.store.Goals as goal

@@ -1,8 +1,8 @@
 use Rattle.std.proofs.Common.{sym, subst}
 use Rattle.envy_map.specs.Fields.{chart}
-use Rattle.envy_layout.specs.Stands.{Stands}
-use Rattle.envy_layout.proofs.Composition.{cause}
-use Rattle.envy_flush.proofs.Leaving.{powers_both}
+use Rattle.envy_meaning.specs.Stands.{Stands}
+use Rattle.envy_soundness.proofs.Composition.{cause}
+use Rattle.envy_engine.proofs.Leaving.{powers_both}
 use Rattle.envy_memory.specs.Below.{TicksBelow}
 use Rattle.envy_memory.specs.Calls.{IsCut, Undisturbed}
 use Rattle.envy_memory.specs.Picture.{Picture}

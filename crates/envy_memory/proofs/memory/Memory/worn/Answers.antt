@@ -19,4 +19,4 @@ returns-clause-left g c =
 pub returns-clause-tells : goal.returns-clause-tells
 returns-clause-tells g c =
     let now = c.args.self.now.chart in
-    subst (λ (n : ℕ). TellsErases now n) (sym (returns-clause-left g c)) (none-left now.shape now.fields.fills now.fields.positions c.known.ensures.shape)
+    subst (λ (n : ℕ). TellsErases now n) (sym (returns-clause-left g c)) (none-left now.shape now.fields.fills now.fields.positions c.invariant_holds.ensures.shape)

@@ -5,7 +5,7 @@ use Rattle.envy_memory.proofs.one_tx.OneTx.into_memory.Goals as goal
 
 pub returns-clause-stands : goal.returns-clause-stands
 returns-clause-stands g c on shut =
-    let e = c.known.ensures in
+    let e = c.invariant_holds.ensures in
     let p = c.args.self.memory in
     shut-stands p.chart on e.magic e.version e.sound (flag-is p.chart c.args.self.begun false (shut-on p.chart.on c.args.self.begun on shut) c.args.self.held)
 

@@ -1,8 +1,8 @@
 use Rattle.std.proofs.Common.{arith, ◌≡◌, ap, sym, subst, true, false, ◌∙◌, ◌⊎◌, List, ℕ}
 use Rattle.std.specs.Prelude.{Result, Err}
-use Rattle.envy_base.specs.Array.{Array}
-use Rattle.envy_layout.specs.Stands.{Stands}
-use Rattle.envy_layout.specs.Words.{durable}
+use Rattle.envy_array.specs.Array.{Array}
+use Rattle.envy_meaning.specs.Stands.{Stands}
+use Rattle.envy_soundness.specs.Words.{durable}
 use Rattle.envy_memory.specs.Calls.{Commits, Works}
 use Rattle.envy_memory.specs.declared.faults.EndFault.{EndFault}
 use Rattle.envy_memory.proofs.Ended.{few-as, lit-ok, and-false, finish-all, finish-kept, finish-lost, words-as}

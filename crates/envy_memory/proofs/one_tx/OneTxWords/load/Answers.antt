@@ -1,5 +1,5 @@
 use Rattle.std.proofs.Common.{ap, sym, ◌∙◌}
-use Rattle.envy_base.specs.Words.{Sheet}
+use Rattle.envy_array.specs.Words.{Sheet}
 use Rattle.envy_map.specs.Fields.{Chart}
 use Rattle.envy_memory.specs.Picture.{Picture}
 use Rattle.std.specs.Prelude.{Err}

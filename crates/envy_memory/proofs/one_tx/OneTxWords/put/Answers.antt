@@ -1,6 +1,6 @@
 use Rattle.std.proofs.Common.{arith, sym, subst}
 use Rattle.std.specs.Prelude.{Result}
-use Rattle.envy_base.specs.Words.{Puts}
+use Rattle.envy_array.specs.Words.{Puts}
 use Rattle.envy_base.specs.declared.board.Trouble.{Trouble}
 use Rattle.envy_memory.specs.Below.{flush_erases, flush_programs}
 use Rattle.envy_memory.specs.Calls.{Works}

@@ -1,7 +1,7 @@
 use Rattle.std.proofs.Common.{arith, ap, sym, subst, true, false, ◌∙◌, ℕ}
 use Rattle.std.specs.Prelude.{Result, Err}
-use Rattle.envy_base.specs.Array.{Array}
-use Rattle.envy_layout.specs.Stands.{Stands}
+use Rattle.envy_array.specs.Array.{Array}
+use Rattle.envy_meaning.specs.Stands.{Stands}
 use Rattle.envy_memory.specs.Calls.{Begins, Works}
 use Rattle.envy_memory.specs.Picture.{Picture}
 use Rattle.envy_memory.specs.declared.faults.BeginFault.{BeginFault}
@@ -48,7 +48,7 @@ returns-in-Ok-clause-answer g c =
       and-true q.chart.on lit,
       started-words p q c.in-Ok.field-0 on lit held c.in-Ok.ensures.step ∙ sym (words-as p b false shut),
       started-kept p q c.in-Ok.field-0 on held c.in-Ok.ensures.step,
-      ap (λ (o : Ownership). pages_of o.pairs) same ∙ start-pages p on held c.known.ensures.unowned,
+      ap (λ (o : Ownership). pages_of o.pairs) same ∙ start-pages p on held c.invariant_holds.ensures.unowned,
     )
 
 pub returns-in-Err-Off-clause-answer : goal.returns-in-Err-Off-clause-answer

@@ -1,7 +1,7 @@
 use Rattle.std.proofs.Common.{arith, ap, subst, true, false, ◌∙◌}
 use Rattle.std.specs.Prelude.{Result, Err}
-use Rattle.envy_base.specs.Array.{Array}
-use Rattle.envy_layout.specs.Stands.{Stands}
+use Rattle.envy_array.specs.Array.{Array}
+use Rattle.envy_meaning.specs.Stands.{Stands}
 use Rattle.envy_memory.specs.Calls.{Aborts, Works}
 use Rattle.envy_memory.specs.declared.faults.EndFault.{EndFault}
 use Rattle.envy_memory.proofs.Ended.{few-as, lit-ok, and-false, undo-all, undo-kept, undo-lost}

@@ -1,6 +1,6 @@
 use Rattle.std.proofs.Common.{◌∙◌, ap, List}
 use Rattle.std.proofs.lemmas.List.{with_items_is}
-use Rattle.envy_base.specs.Array.{put_back}
+use Rattle.envy_array.specs.Array.{put_back}
 use Rattle.envy_plain.specs.declared.saved_word.SavedWord.{SavedWord}
 use Rattle.envy_plain.specs.Fields.{saved_by}
 use Rattle.envy_plain.proofs.Moves.{aborts}

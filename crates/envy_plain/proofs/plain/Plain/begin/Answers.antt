@@ -1,6 +1,6 @@
 use Rattle.std.proofs.Common.{◌∙◌, sym, ap, refl, Some, []}
 use Rattle.std.specs.Prelude.{position}
-use Rattle.envy_base.specs.Array.{Array, is_closed, with_slot}
+use Rattle.envy_array.specs.Array.{Array, is_closed, with_slot}
 use Rattle.envy_plain.proofs.Machine.{array-begun, saved_by-closed, IsPlain-begun}
 use Rattle.envy_plain.proofs.Moves.{first-found, first-none}
 use Rattle.envy_plain.proofs.plain.Plain.begin.Goals as goal

@@ -1,6 +1,6 @@
 use Rattle.std.proofs.Common.{◌∙◌, subst, ap, ◌≡◌, length, ◌*◌}
-use Rattle.envy_base.specs.Array.{Array, pages}
-use Rattle.envy_base.proofs.Owning.{owners}
+use Rattle.envy_array.specs.Array.{Array, pages}
+use Rattle.envy_array.proofs.Owning.{owners}
 use Rattle.envy_plain.proofs.Readers.{owner-read}
 use Rattle.envy_plain.proofs.plain.Plain.owner_at.Goals as goal
 

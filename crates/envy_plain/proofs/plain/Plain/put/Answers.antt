@@ -1,6 +1,6 @@
 use Rattle.std.proofs.Common.{refl}
-use Rattle.envy_base.specs.Array.{page_of}
-use Rattle.envy_base.specs.Step.{MayOwn}
+use Rattle.envy_array.specs.Array.{page_of}
+use Rattle.envy_array.specs.Step.{MayOwn}
 use Rattle.envy_plain.proofs.Moves.{may-mine, may-free, puts, saved-in_range}
 use Rattle.envy_plain.proofs.plain.Plain.put.Goals as goal
 use Rattle.envy_plain.proofs.plain.Plain.put.Goals.{in-Some+else-slot-t, in-None+else-self}

@@ -1,5 +1,5 @@
 use Rattle.std.proofs.Common.{◌≡◌, ◌∙◌, sym, ap, vec_len, length, arith}
-use Rattle.envy_base.specs.Array.{Array}
+use Rattle.envy_array.specs.Array.{Array}
 use Rattle.envy_plain.specs.Fields.{saved_words}
 use Rattle.envy_plain.proofs.Room.{length-saved, sum_by-slots_in}
 use Rattle.envy_plain.proofs.plain.Plain.saved_count.Goals as goal

@@ -6,14 +6,14 @@ use Rattle.envy_base.specs.declared.board.Trouble.{Trouble}
 use Rattle.envy_base.specs.declared.fields.Job.TheVariants.{Erase}
 use Rattle.envy_map.specs.Fields.{Fields, Chart, chart}
 use Rattle.envy_map.specs.Writes.{with_job}
-use Rattle.envy_layout.specs.Naming.{AreParted}
-use Rattle.envy_layout.specs.Same.{Same, Stays, Framed}
+use Rattle.envy_soundness.specs.Naming.{AreParted}
+use Rattle.envy_soundness.specs.Same.{Same, Stays, Framed}
 use Rattle.envy_reloc.specs.Plan.{Plan}
 use Rattle.envy_reloc.specs.Rows.{IsLowestLeft}
 use Rattle.envy_reloc.proofs.CopyLemmas.{LowestLeft-next, Plan-copied}
-use Rattle.envy_layout.proofs.KeptLemmas.{Names-range}
-use Rattle.envy_layout.proofs.Sames.{then_same, tally_end}
-use Rattle.envy_layout.specs.Power.{power_after}
+use Rattle.envy_soundness.proofs.KeptLemmas.{Names-range}
+use Rattle.envy_soundness.proofs.Sames.{then_same, tally_end}
+use Rattle.envy_soundness.specs.Power.{power_after}
 use Rattle.envy_space.specs.Pool.{PoolAgrees}
 use Rattle.envy_reloc.proofs.Exits.{unpowered}
 use Rattle.envy_reloc.proofs.KeepLemmas.{counted-copy, wasted-copy}

@@ -1,5 +1,5 @@
 use Rattle.envy_map.specs.Fields.{chart}
-use Rattle.envy_layout.proofs.Claimed.{AreHome-copying}
+use Rattle.envy_soundness.proofs.Claimed.{AreHome-copying}
 use Rattle.envy_reloc.proofs.reloc.Reloc.give_up.Goals as goal
 
 pub begin_erase-requires-clause-home : goal.begin_erase-requires-clause-home

@@ -4,11 +4,11 @@ use Rattle.envy_base.specs.Shape.{IsShape}
 use Rattle.envy_base.specs.State.{IsBoard}
 use Rattle.envy_base.specs.declared.shape.Shape.{Shape}
 use Rattle.envy_map.specs.Fields.{Fields, chart}
-use Rattle.envy_layout.specs.Same.{Same, Stays, Framed}
-use Rattle.envy_layout.specs.Sound.{Sound, IsSpare}
+use Rattle.envy_soundness.specs.Same.{Same, Stays, Framed}
+use Rattle.envy_soundness.specs.Sound.{Sound, IsSpare}
 use Rattle.envy_space.specs.Pool.{IsPoolOf}
-use Rattle.envy_reloc.specs.declared.copying.Left.{Left}
-use Rattle.envy_reloc.specs.declared.moving.Move.{Move}
+use Rattle.envy_reloc.specs.declared.row_copy.Left.{Left}
+use Rattle.envy_reloc.specs.declared.row_move.Move.{Move}
 use Rattle.envy_reloc.specs.Phases.{NextMove}
 use Rattle.envy_reloc.specs.Plan.{Plan, IsPlanOf}
 use Rattle.envy_reloc.specs.Rows.{NextKept, HasRoom, IsLowestRoom}
@@ -16,7 +16,7 @@ use Rattle.envy_reloc.proofs.Counts.{counts_by_copy, counts_by_move, counts_by_n
 use Rattle.envy_reloc.proofs.KeepLemmas.{AllFollow-still, FramesStay-switched}
 use Rattle.envy_reloc.proofs.CopyLemmas.{AllCopied-next, CopiedWhole-made}
 use Rattle.envy_reloc.proofs.StepLemmas.{Found, spare-is, within-move, within-copy, err-of, SpoilsCopy-found, CopiesOne-found, SwitchesSegment-made}
-use Rattle.envy_layout.proofs.Sames.{same_within}
+use Rattle.envy_soundness.proofs.Sames.{same_within}
 use Rattle.envy_reloc.proofs.Exits.{unpowered, off-after, off-if, off-bad, err-after, err-if, ok-bad}
 use Rattle.envy_reloc.proofs.PlanLemmas.{Plan-switched}
 use Rattle.envy_reloc.proofs.reloc.Reloc.go_on.Goals as goal

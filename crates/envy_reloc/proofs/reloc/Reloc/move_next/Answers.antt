@@ -6,16 +6,16 @@ use Rattle.envy_base.specs.declared.fields.Place.{Place}
 use Rattle.envy_base.specs.declared.shape.Shape.{Shape}
 use Rattle.envy_map.specs.Fields.{Fields, Chart, chart}
 use Rattle.envy_map.specs.Writes.{with_job}
-use Rattle.envy_layout.specs.Frames.{FramesStay}
-use Rattle.envy_layout.specs.Power.{power_after}
-use Rattle.envy_layout.specs.Same.{Same, Stays, Framed}
-use Rattle.envy_layout.proofs.FrameStay.{FramesStay-refl}
+use Rattle.envy_soundness.specs.Frames.{FramesStay}
+use Rattle.envy_soundness.specs.Power.{power_after}
+use Rattle.envy_soundness.specs.Same.{Same, Stays, Framed}
+use Rattle.envy_soundness.proofs.FrameStay.{FramesStay-refl}
 use Rattle.envy_space.specs.Pool.{IsPoolOf, PoolAgrees}
 use Rattle.envy_table.specs.Agreement.{AreCurrent}
 use Rattle.envy_reloc.specs.Plan.{Plan}
 use Rattle.envy_reloc.specs.Rows.{HasRoom}
 use Rattle.envy_reloc.proofs.MoveLemmas.{Plan-moved}
-use Rattle.envy_layout.proofs.Sames.{then_same, tally_end}
+use Rattle.envy_soundness.proofs.Sames.{then_same, tally_end}
 use Rattle.envy_reloc.proofs.Exits.{unpowered}
 use Rattle.envy_reloc.proofs.KeepLemmas.{counted-move, wasted-move}
 use Rattle.envy_reloc.proofs.SettleLemmas.{ok-map}

@@ -2,18 +2,18 @@ use Rattle.std.proofs.Common.{◌≡◌, inl, ◌∙◌, ℕ, ◌/◌, ◌*◌, 
 use Rattle.std.specs.Prelude.{All}
 use Rattle.std.proofs.lemmas.List.Elements.{All-rest}
 use Rattle.envy_map.specs.Fields.{chart}
-use Rattle.envy_layout.specs.Sound.{IsKept}
-use Rattle.envy_layout.specs.declared.rows.Kept.{Kept}
+use Rattle.envy_soundness.specs.Sound.{IsKept}
+use Rattle.envy_soundness.specs.declared.rows.Kept.{Kept}
 use Rattle.envy_reloc.specs.Plan.{Plan}
 use Rattle.envy_reloc.specs.Rows.{Rooms, IsLowestRoom}
-use Rattle.envy_layout.specs.Naming.{Keeps}
+use Rattle.envy_soundness.specs.Naming.{Keeps}
 use Rattle.envy_reloc.proofs.CopyLemmas.{in-segment}
 use Rattle.envy_reloc.proofs.MoveLemmas.{first-taken, dropped-more, none-left}
 use Rattle.envy_base.specs.Shape.{IsShape, positions_of}
 use Rattle.envy_base.specs.State.{IsBoard}
 use Rattle.envy_base.specs.declared.shape.Shape.{Shape}
-use Rattle.envy_layout.proofs.Claimed.{row-range}
-use Rattle.envy_layout.proofs.NamingLemmas.{Names-named}
+use Rattle.envy_soundness.proofs.Claimed.{row-range}
+use Rattle.envy_soundness.proofs.NamingLemmas.{Names-named}
 use Rattle.envy_reloc.specs.Phases.{IsFirstMove}
 use Rattle.envy_reloc.proofs.Exits.{none-if}
 use Rattle.envy_reloc.proofs.KeepLemmas.{becomes-moves}
@@ -120,8 +120,8 @@ room_between-requires-clause-last g c =
     let low = (c.requires.plan.prepared.aside c.args.segment c.in-Some.first c.in-Some.last c.requires.copying aside).1 in
     subst (λ (sh : Shape). c.in-Some.last < positions_of sh) (sym c.requires.pool.shape) low
 
-pub keeper-requires-clause-row : goal.keeper-requires-clause-row
-keeper-requires-clause-row g c =
+pub row_owner-requires-clause-row : goal.row_owner-requires-clause-row
+row_owner-requires-clause-row g c =
     let now = chart (g.B.Board.state c.args.board.now) in
     let items = c.loop-turn.self-inside.moves.items in
     let long = c.remove-row.ensures.len in

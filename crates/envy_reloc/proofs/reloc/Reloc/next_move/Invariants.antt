@@ -1,7 +1,7 @@
 use Rattle.std.proofs.Common.{◌≡◌, ℕ, ◌+◌, ◌/◌, List, ◌++◌, length}
 use Rattle.std.specs.Prelude.{All}
 use Rattle.envy_map.specs.Fields.{chart}
-use Rattle.envy_layout.specs.Sound.{IsKept}
+use Rattle.envy_soundness.specs.Sound.{IsKept}
 use Rattle.envy_reloc.proofs.reloc.Reloc.next_move.Given as goal
 
 abbrev pub invariant-loop-turn : goal.invariant-loop-turn

@@ -3,10 +3,10 @@ use Rattle.envy_base.specs.declared.fields.Job.{Job}
 use Rattle.envy_base.specs.declared.fields.Job.TheVariants.{Copy, Switch, Erase}
 use Rattle.envy_map.specs.Fields.{Fields, Chart, chart}
 use Rattle.envy_map.specs.Writes.{with_job}
-use Rattle.envy_layout.proofs.Composition.{Same-refl}
-use Rattle.envy_layout.proofs.JobLaw.{AreHome-freed}
+use Rattle.envy_soundness.proofs.Composition.{Same-refl}
+use Rattle.envy_soundness.proofs.JobLaw.{AreHome-freed}
 use Rattle.envy_reloc.specs.Settling.{Finds, Settles, Finishes}
-use Rattle.envy_layout.proofs.Claimed.{AreHome-copying}
+use Rattle.envy_soundness.proofs.Claimed.{AreHome-copying}
 use Rattle.envy_reloc.proofs.Exits.{unpowered, none-off, none-power}
 use Rattle.envy_reloc.proofs.SettleLemmas.{freed-spare, keeps-written, ok-map}
 use Rattle.envy_reloc.proofs.reloc.Reloc.settle.Goals as goal

@@ -7,10 +7,10 @@ use Rattle.envy_base.specs.declared.board.Trouble.{Trouble}
 use Rattle.envy_base.specs.declared.fields.Job.{Job}
 use Rattle.envy_base.specs.declared.fields.Job.TheVariants.{Switch, Erase}
 use Rattle.envy_map.specs.Fields.{Fields, Chart, chart}
-use Rattle.envy_layout.specs.Power.{power_after}
-use Rattle.envy_layout.specs.Same.{Same, Stays, Framed}
-use Rattle.envy_layout.proofs.Composition.{Same-refl}
-use Rattle.envy_layout.proofs.Sames.{same_within}
+use Rattle.envy_soundness.specs.Power.{power_after}
+use Rattle.envy_soundness.specs.Same.{Same, Stays, Framed}
+use Rattle.envy_soundness.proofs.Composition.{Same-refl}
+use Rattle.envy_soundness.proofs.Sames.{same_within}
 use Rattle.envy_reloc.specs.Plan.{Plan}
 use Rattle.envy_reloc.specs.declared.step.Phase.TheVariants.{Placed, Erased}
 use Rattle.envy_reloc.proofs.Counts.{counts_by_erase, counts_by_none, counts_by_nothing, apart_by_none}

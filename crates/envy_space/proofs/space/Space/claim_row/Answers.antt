@@ -5,9 +5,9 @@ use Rattle.envy_base.specs.Shape.{IsShape}
 use Rattle.envy_base.specs.declared.shape.Shape.{Shape}
 use Rattle.envy_map.specs.Fields.{Chart, Fields, chart, with_fields}
 use Rattle.envy_map.specs.Writes.{with_back, with_fill}
-use Rattle.envy_layout.specs.Claims.{IsUsable}
-use Rattle.envy_layout.specs.Sound.{IsFree}
-use Rattle.envy_layout.proofs.Sames.{same_then}
+use Rattle.envy_soundness.specs.Claims.{IsUsable}
+use Rattle.envy_soundness.specs.Sound.{IsFree}
+use Rattle.envy_soundness.proofs.Sames.{same_then}
 use Rattle.envy_space.specs.Pool.{Pool, IsPool, IsPoolOf, with_filled}
 use Rattle.envy_space.proofs.PoolLemmas.{PoolAgrees-claimed, Claimed-made}
 use Rattle.envy_space.proofs.space.Space.claim_row.Goals as goal

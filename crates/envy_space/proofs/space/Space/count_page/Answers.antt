@@ -4,7 +4,7 @@ use Rattle.std.proofs.lemmas.Result.{IfOk-from_err}
 use Rattle.envy_base.specs.declared.fields.Place.{Place}
 use Rattle.envy_base.specs.declared.fields.Place.TheVariants.{Row}
 use Rattle.envy_map.specs.Fields.{Fields, chart, place}
-use Rattle.envy_layout.specs.Words.{kept}
+use Rattle.envy_soundness.specs.Words.{kept}
 use Rattle.envy_map.proofs.Going.{OnErr-any}
 use Rattle.envy_space.specs.Pool.{Pool, IsShadow}
 use Rattle.envy_space.proofs.CountLemmas.{HasPlaced-page, HasCounted-shadow, HasCounted-no_shadow, Notes, room-row, room-shadow}

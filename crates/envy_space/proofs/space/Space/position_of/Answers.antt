@@ -1,6 +1,6 @@
 use Rattle.std.proofs.Common.{◌<◌, sym, subst, get_or, ◌≡◌, ◌∙◌, arith}
 use Rattle.std.proofs.lemmas.List.{get_or-take}
-use Rattle.envy_layout.specs.Sound.{IsPlaced}
+use Rattle.envy_soundness.specs.Sound.{IsPlaced}
 use Rattle.envy_space.specs.Pool.{Pool, IsPool}
 use Rattle.envy_space.proofs.SpaceLemmas.{IsPool-space, placed-within, placed-low}
 use Rattle.envy_space.proofs.space.Space.position_of.Goals as goal

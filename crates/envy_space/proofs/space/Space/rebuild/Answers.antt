@@ -4,8 +4,8 @@ use Rattle.std.proofs.lemmas.Bool.{false≢true}
 use Rattle.envy_base.specs.declared.board.Off.{Off}
 use Rattle.envy_base.specs.declared.shape.Shape.{Shape}
 use Rattle.envy_map.specs.Fields.{Fields, chart}
-use Rattle.envy_layout.specs.Power.{power_of}
-use Rattle.envy_layout.proofs.KeptCounts.{kept_in-pages}
+use Rattle.envy_soundness.specs.Power.{power_of}
+use Rattle.envy_soundness.proofs.KeptCounts.{kept_in-pages}
 use Rattle.envy_space.specs.Pool.{Pool, PoolAgrees, HasCounted}
 use Rattle.envy_space.proofs.space.Space.rebuild.Goals as goal
 

@@ -2,7 +2,7 @@ use Rattle.std.proofs.Common.{◌∙◌, ℕ, List, sym, ap, subst, arith}
 use Rattle.std.specs.Prelude.{IsTrue}
 use Rattle.envy_base.specs.declared.shape.Shape.{Shape}
 use Rattle.envy_map.specs.Fields.{Chart, chart}
-use Rattle.envy_layout.specs.Sound.{IsSpare}
+use Rattle.envy_soundness.specs.Sound.{IsSpare}
 use Rattle.envy_space.specs.Pool.{IsPool, IsPoolOf}
 use Rattle.envy_space.proofs.PoolLemmas.{PoolAgrees-replaced, StandsAt-spare}
 use Rattle.envy_space.proofs.space.Space.replace_spare.Goals as goal

@@ -1,7 +1,7 @@
 use Rattle.std.proofs.Common.{◌≡◌, ◌∙◌, ap}
 use Rattle.envy_base.specs.declared.shape.Shape.{Shape}
 use Rattle.envy_map.specs.Fields.{chart}
-use Rattle.envy_layout.proofs.Sames.{then_same}
+use Rattle.envy_soundness.proofs.Sames.{then_same}
 use Rattle.envy_space.specs.Pool.{Pool}
 use Rattle.envy_space.proofs.RetireLemmas.{retired-fields, retired-pool, PoolAgrees-retired, RetiresTo-made}
 use Rattle.envy_space.proofs.space.Space.retire_to.Goals as goal

@@ -1,6 +1,6 @@
 use Rattle.std.proofs.Common.{ℕ, ap, get_or, ◌∙◌, ◌≡◌, ◌<◌, ◌≤◌, ◌-◌, subst, arith}
 use Rattle.envy_base.specs.Shape.{IsShape}
-use Rattle.envy_layout.specs.Sound.{IsSpare}
+use Rattle.envy_soundness.specs.Sound.{IsSpare}
 use Rattle.envy_space.specs.Pool.{Pool, IsPool}
 use Rattle.envy_space.proofs.SpaceLemmas.{IsPool-space, spare-last}
 use Rattle.envy_space.proofs.space.Space.spare.Goals as goal

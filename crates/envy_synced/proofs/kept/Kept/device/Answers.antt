@@ -1,33 +1,15 @@
-use Rattle.std.proofs.Common.{◌≤◌, subst, sym}
+use Rattle.std.proofs.Common.{subst, sym, ℕ}
 use Rattle.envy_journal.specs.Journal.{journal_state}
-use Rattle.envy_synced.proofs.Telling.{told_last, told_reads, told_before}
+use Rattle.envy_map.specs.Fields.{chart}
+use Rattle.envy_synced.specs.Disk.{CrashLeaves, disk_state}
+use Rattle.envy_synced.proofs.Telling.{crash_leaves}
 use Rattle.envy_synced.proofs.kept.Kept.device.Goals as goal
 
-pub returns-clause-time : goal.returns-clause-time
-returns-clause-time g c =
-    let k = c.args.self.now in
-    subst (λ (d : g.row.D.Denot). g.D.Device.moment k.synced.value.log.device ≤ g.D.Device.moment d) (sym c.device.ensures) k.kept.later
-
-pub returns-clause-last : goal.returns-clause-last
-returns-clause-last g c was good last file left =
+pub returns-clause-leaves : goal.returns-clause-leaves
+returns-clause-leaves g c =
     let k = c.args.self.now in
     let j = k.journal in
-    let since = g.D.Device.left_since in
-    told_last g.D.Device.seen g.D.Device.moment g.D.Device.hindered since j.log k.synced.value.log k.before.value.log (journal_state j.dead (g.B.Board.state j.board)) k.kept was file good last
-    (subst (λ (d : g.row.D.Denot). since d was.plans file) c.device.ensures left)
-
-pub returns-clause-reads : goal.returns-clause-reads
-returns-clause-reads g c was good last file left =
-    let k = c.args.self.now in
-    let j = k.journal in
-    let since = g.D.Device.left_since in
-    told_reads g.D.Device.seen g.D.Device.moment g.D.Device.hindered since j.log k.synced.value.log k.before.value.log (journal_state j.dead (g.B.Board.state j.board)) k.kept was file good last
-    (subst (λ (d : g.row.D.Denot). since d was.plans file) c.device.ensures left)
-
-pub returns-clause-one_before : goal.returns-clause-one_before
-returns-clause-one_before g c first was fine good one last file left =
-    let k = c.args.self.now in
-    let j = k.journal in
-    let since = g.D.Device.left_since in
-    told_before g.D.Device.seen g.D.Device.moment g.D.Device.hindered since j.log k.synced.value.log k.before.value.log (journal_state j.dead (g.B.Board.state j.board)) k.kept first was file fine good one last
-    (subst (λ (d : g.row.D.Denot). since d first.plans file) c.device.ensures left)
+    let D = g.D.Device in
+    let s = journal_state j.dead (g.B.Board.state j.board) in
+    subst (λ (d : g.row.D.Denot). CrashLeaves (D.left_since d) (D.moment d) (chart (disk_state D.seen D.moment D.hindered k.synced.value.log k.before.value.log s))) (sym c.device.ensures)
+    (crash_leaves D.seen D.moment D.hindered D.left_since j.log k.synced.value.log k.before.value.log s k.kept)

@@ -1,4 +1,4 @@
-use Rattle.std.proofs.Common.{◌∙◌, List, ap}
+use Rattle.std.proofs.Common.{◌∙◌, List, ap, refl}
 use Rattle.envy_journal.specs.declared.operation.Operation.{Operation}
 use Rattle.envy_journal.specs.Content.{holds}
 use Rattle.envy_synced.specs.Disk.{IsKept}
@@ -7,7 +7,7 @@ use Rattle.envy_journal.specs.Snapshot.{limit_of}
 use Rattle.envy_journal.proofs.Condensed.{none_spilled}
 use Rattle.envy_synced.proofs.Lightened.{none_more}
 use Rattle.envy_synced.proofs.Going.{kept_new, stands_now}
-use Rattle.envy_synced.proofs.Telling.{reads_now, synced_now}
+use Rattle.envy_synced.proofs.Telling.{synced_now}
 use Rattle.envy_synced.proofs.kept.Kept.new.Goals as goal
 
 pub invariant_of-result : goal.invariant_of-result
@@ -19,7 +19,7 @@ invariant_of-result g c =
     let a = g.B.Board.state j.board in
     let alive = c.requires.alive in
     let is = j.logged alive in
-    let fresh : IsKept seen moment left j.log j.log j.log a = kept_new seen moment left j.log a (stands_now seen g.D.Device.may_leave moment left g.D.Device.synced j.log a (g.met.D.Device.only_now j.log.device) is) in
+    let fresh : IsKept seen moment g.D.Device.hindered left j.log j.log j.log a = kept_new seen moment g.D.Device.hindered left j.log a (stands_now seen g.D.Device.may_leave moment left g.D.Device.synced j.log a (g.met.D.Device.only_now j.log.device) is) in
     let D = g.D.Device in
     record {
       kept = rw (c.of-synced.ensures, c.of-before.ensures, alive) fresh;
@@ -38,12 +38,4 @@ returns-clause-synced g c =
     (synced_now seen moment g.D.Device.hindered j.log j.log a (is.content ∙ ap (λ (p : List Operation). holds a.shape p) c.requires.rests))
 
 pub returns-clause-reads : goal.returns-clause-reads
-returns-clause-reads g c =
-    let j = c.args.journal in
-    let seen = g.D.Device.seen in
-    let moment = g.D.Device.moment in
-    let a = g.B.Board.state j.board in
-    let alive = c.requires.alive in
-    let is = j.logged alive in
-    rw (c.of-synced.ensures, c.of-before.ensures, alive)
-    (reads_now seen moment g.D.Device.hindered j.log j.log a (is.content ∙ ap (λ (p : List Operation). holds a.shape p) c.requires.rests))
+returns-clause-reads g c = rw (c.of-synced.ensures) refl

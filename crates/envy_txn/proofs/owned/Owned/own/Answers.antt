@@ -1,6 +1,6 @@
 use Rattle.std.proofs.Common.{◌≡◌, List, true, length, set, Some, sym, ◌∙◌, ap, subst, arith}
 use Rattle.envy_map.specs.Fields.{Chart, chart}
-use Rattle.envy_layout.specs.Sound.{Sound, Slots, slot_named}
+use Rattle.envy_soundness.specs.Sound.{Sound, Slots, slot_named}
 use Rattle.envy_txn.specs.declared.pair.Pair.{Pair}
 use Rattle.envy_txn.specs.Owners.{Ownership, AreOwned}
 use Rattle.envy_txn.proofs.OwnerLemmas.{pairs-counted, may-open, may-named, AreOwned-pushed}

@@ -1,0 +1,5 @@
+pub mod Keeping
+pub mod Owning
+pub mod Total
+pub mod Undoing
+pub mod Working

@@ -1,0 +1,4 @@
+pub mod Area
+pub mod Array
+pub mod Step
+pub mod Words

@@ -1,5 +1,0 @@
-use Rattle.envy_base.proofs.Keeping.{step-keeps}
-use Rattle.envy_base.proofs.laws.step_keeps_the_array.Goals as goal
-
-pub returns : goal.returns
-returns c = step-keeps

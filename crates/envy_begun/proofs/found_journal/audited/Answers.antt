@@ -1,0 +1,1 @@
+use Rattle.envy_begun.proofs.found_journal.audited.Goals as goal

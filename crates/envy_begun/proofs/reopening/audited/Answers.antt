@@ -1,1 +1,0 @@
-use Rattle.envy_begun.proofs.reopening.audited.Goals as goal

@@ -1,5 +1,0 @@
-use Rattle.std.proofs.Common.{◌≡◌, length}
-use Rattle.envy_choices.proofs.lifetimes.flush_others.Given as goal
-
-abbrev pub invariant-loop-flush : goal.invariant-loop-flush
-invariant-loop-flush l = (length l.lifetime.cleaned ≡ 3) × (length l.lifetime.born ≡ 16)

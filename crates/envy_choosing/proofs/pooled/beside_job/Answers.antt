@@ -1,5 +1,0 @@
-use Rattle.envy_choosing.proofs.PooledLemmas.{counted}
-use Rattle.envy_choosing.proofs.pooled.beside_job.Goals as goal
-
-pub beside-requires-clause-rows : goal.beside-requires-clause-rows
-beside-requires-clause-rows c = counted c.args.space.now _ c.positions-positions.ensures.pool c.requires.positions

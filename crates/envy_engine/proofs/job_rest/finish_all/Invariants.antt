@@ -1,0 +1,18 @@
+use Rattle.std.proofs.Common.{◌≡◌, ◌+◌, ◌*◌}
+use Rattle.envy_map.specs.Fields.{chart}
+use Rattle.envy_soundness.specs.Frames.{FramesStay}
+use Rattle.envy_engine.specs.Agreement.{Ready}
+use Rattle.envy_engine.specs.Budgets.{Going}
+use Rattle.envy_engine.specs.Leaving.{LeavesParts}
+use Rattle.envy_engine.specs.Steps.{StepsBy}
+use Rattle.envy_engine.proofs.job_rest.finish_all.Given as goal
+
+abbrev pub invariant-loop-turn : goal.invariant-loop-turn
+invariant-loop-turn g l = record {
+  ready : Ready (chart (g.B.Board.state l.board)) l.parts;
+  going : Going (chart (g.B.Board.state l.initial.board)) (chart (g.B.Board.state l.board)) l.parts (3 * l.rows + 4) 3 (3 * l.rows + 15) l._turn;
+  leaves : LeavesParts (chart (g.B.Board.state l.initial.board)) l.initial.parts (chart (g.B.Board.state l.board)) l.parts;
+  here : FramesStay (chart (g.B.Board.state l.initial.board)).fields.places (chart (g.B.Board.state l.board)).fields.places;
+  parts : l.parts ≡ record l.initial.parts { space = l.parts.space; cache = l.parts.cache; reloc = l.parts.reloc; stages = l.parts.stages };
+  steps : StepsBy l._turn (chart (g.B.Board.state l.initial.board)) l.initial.parts (chart (g.B.Board.state l.board)) l.parts;
+}

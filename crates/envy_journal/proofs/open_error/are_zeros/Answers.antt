@@ -1,0 +1,1 @@
+use Rattle.envy_journal.proofs.open_error.are_zeros.Goals as goal

@@ -1,1 +1,0 @@
-use Rattle.envy_journal.proofs.opening.are_zeros.Goals as goal

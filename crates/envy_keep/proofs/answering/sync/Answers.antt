@@ -1,8 +1,0 @@
-use Rattle.envy_keep.proofs.Goes.{syncs-ok, syncs-err}
-use Rattle.envy_keep.proofs.answering.sync.Goals as goal
-
-pub returns-in-Ok : goal.returns-in-Ok
-returns-in-Ok g c = syncs-ok c.args.memory.now c.sync.new.self c.in-Ok.ensures.synced c.in-Ok.ensures.answer c.sync.ensures.kept
-
-pub returns-in-Err : goal.returns-in-Err
-returns-in-Err g c = syncs-err c.args.memory.now c.sync.new.self _ c.requires c.in-Err.ensures.answer c.sync.ensures.kept

@@ -1,6 +1,0 @@
-use Rattle.envy_map.specs.Fields.{chart}
-use Rattle.envy_layout.proofs.JobLaw.{FitsJob-copy}
-use Rattle.envy_layout.proofs.job.begin_copy.Goals as goal
-
-pub change_job-requires-clause-fits : goal.change_job-requires-clause-fits
-change_job-requires-clause-fits g c = λ on. FitsJob-copy (g.B.Board.state c.args.board.now).shape (chart (g.B.Board.state c.args.board.now)).fields (g.B.Board.state c.args.board.now).flash c.args.segment c.requires.sound (c.requires.idle on) (c.requires.placed on)

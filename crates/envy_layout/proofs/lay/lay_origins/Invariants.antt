@@ -1,7 +1,0 @@
-use Rattle.envy_map.specs.Fields.{chart}
-use Rattle.envy_layout.specs.Formatting.{with_origins_laid}
-use Rattle.envy_layout.proofs.Laying.{IsLaidSo}
-use Rattle.envy_layout.proofs.lay.lay_origins.Given as goal
-
-abbrev pub invariant-loop-i : goal.invariant-loop-i
-invariant-loop-i g l = IsLaidSo (chart (g.B.Board.state l.initial.board)) (chart (g.B.Board.state l.board)) (with_origins_laid l.i (chart (g.B.Board.state l.initial.board)).fields)

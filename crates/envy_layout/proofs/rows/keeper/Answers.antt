@@ -1,9 +1,0 @@
-use Rattle.std.proofs.Common.{◌∙◌, ap, Some}
-use Rattle.envy_base.specs.declared.fields.Undo.{Undo}
-use Rattle.envy_layout.specs.Sound.{Sound, Slots, slot_named}
-use Rattle.envy_layout.proofs.rows.keeper.Goals as goal
-
-pub slot-requires-clause-decodes : goal.slot-requires-clause-decodes
-slot-requires-clause-decodes g c =
-    let slots = Sound.slots c.requires.sound in
-    Slots.decode slots c.in-Shadow.t (Slots.named slots c.in_ok-page.page c.in-Shadow.t (ap slot_named (c.in_ok-t.ensures.value.1 ∙ ap (λ (u : Undo). Some u) c.in-Shadow.is)))

@@ -1,6 +1,0 @@
-use Rattle.std.proofs.Common.{arith}
-use Rattle.envy_map.proofs.OnePut.{Writes-places_clear}
-use Rattle.envy_map.proofs.formatting.clear_places.Goals as goal
-
-pub returns-clause-writes : goal.returns-clause-writes
-returns-clause-writes g c = Writes-places_clear _ _ _ _ _ (g.met.B.Board.lawful c.args.board.now) c.requires (grind arith) c.put.ensures

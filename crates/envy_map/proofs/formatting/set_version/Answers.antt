@@ -1,6 +1,0 @@
-use Rattle.std.proofs.Common.{arith}
-use Rattle.envy_map.proofs.OnePut.{Writes-version}
-use Rattle.envy_map.proofs.formatting.set_version.Goals as goal
-
-pub returns-clause-writes : goal.returns-clause-writes
-returns-clause-writes g c = Writes-version _ _ _ _ _ (g.met.B.Board.lawful c.args.board.now) (grind arith) c.put.ensures

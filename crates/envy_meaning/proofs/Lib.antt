@@ -1,0 +1,4 @@
+pub mod Ending
+pub mod Owners
+pub mod Putting
+pub mod Standing

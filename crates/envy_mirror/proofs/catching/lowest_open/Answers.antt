@@ -1,9 +1,0 @@
-use Rattle.envy_map.specs.Fields.{chart}
-use Rattle.envy_layout.specs.Sound.{Sound, Slots}
-use Rattle.envy_memory.proofs.Slots.{slot-low}
-use Rattle.envy_mirror.proofs.catching.lowest_open.Goals as goal
-
-pub slot-requires-clause-decodes : goal.slot-requires-clause-decodes
-slot-requires-clause-decodes g c =
-    let s = g.B.Board.state c.board-board.result.now in
-    Slots.decode (Sound.slots c.board-board.ensures.sound) c.loop-t.t (slot-low s.shape (chart s).fields.version c.loop-t.t c.board-board.ensures.version c.loop-t-test.true)

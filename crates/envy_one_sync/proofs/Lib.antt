@@ -1,3 +1,0 @@
-mod Drawers
-mod Numbered
-pub mod Alike

@@ -1,6 +1,0 @@
-use Rattle.std.proofs.Common.{refl}
-use Rattle.envy_power.proofs.PlansLemmas.{CutComesAt-planned}
-use Rattle.envy_power.proofs.supply.Supply.arm_cut.Goals as goal
-
-pub returns-clause-comes : goal.returns-clause-comes
-returns-clause-comes c = CutComesAt-planned _ _ _ c.requires refl

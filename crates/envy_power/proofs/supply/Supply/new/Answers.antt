@@ -1,6 +1,0 @@
-use Rattle.std.proofs.Common.{refl}
-use Rattle.envy_power.proofs.PlansLemmas.{NothingComes-unplanned}
-use Rattle.envy_power.proofs.supply.Supply.new.Goals as goal
-
-pub returns-clause-quiet : goal.returns-clause-quiet
-returns-clause-quiet c = NothingComes-unplanned _ refl refl

@@ -1,3 +1,0 @@
-pub mod Power
-pub mod Plans
-pub mod Draws

@@ -1,0 +1,23 @@
+use Rattle.std.proofs.Common.{◌≡◌}
+use Rattle.std.specs.Prelude.{IsTrue}
+use Rattle.envy_map.specs.Fields.{chart}
+use Rattle.envy_soundness.specs.Same.{Same}
+use Rattle.envy_space.specs.Pool.{PoolAgrees}
+use Rattle.envy_table.specs.Agreement.{AreCurrent}
+use Rattle.envy_table.specs.Hits.{Rests}
+use Rattle.envy_soundness.specs.Naming.{AreParted}
+use Rattle.envy_reloc.specs.Switching.{SwitchesRows}
+use Rattle.envy_reloc.proofs.row_switch.switch_segment.Given as goal
+
+abbrev pub invariant-loop-i : goal.invariant-loop-i
+invariant-loop-i g l = record {
+  same : Same 0 0 (chart (g.B.Board.state l.initial.board)) (chart (g.B.Board.state l.board));
+  on : IsTrue (g.B.Board.state l.board).on;
+  flash : (g.B.Board.state l.board).flash ≡ (g.B.Board.state l.initial.board).flash;
+  pool : PoolAgrees (g.B.Board.state l.board).shape (chart (g.B.Board.state l.board)).fields l.space;
+  cache : AreCurrent (g.B.Board.state l.board).shape.pages (chart (g.B.Board.state l.board)).fields.places l.cache.entries;
+  parted : AreParted (chart (g.B.Board.state l.board)).fields.slots (chart (g.B.Board.state l.board)).fields.undos (chart (g.B.Board.state l.board)).fields.places;
+  rests : Rests l.initial.cache l.cache;
+  shape : l.space.shape ≡ l.initial.space.shape;
+  rows : SwitchesRows (g.B.Board.state l.board).shape l.spare l.i (chart (g.B.Board.state l.initial.board)).fields (chart (g.B.Board.state l.board)).fields;
+}

@@ -1,9 +1,0 @@
-use Rattle.std.proofs.Common.{refl}
-use Rattle.envy_saved.proofs.Reopened.{last_before}
-use Rattle.envy_saved.proofs.laws.a_sync_is_the_last.Goals as goal
-
-pub returns-clause-last : goal.returns-clause-last
-returns-clause-last c now = record { shape = refl; moment = refl; bytes = refl }
-
-pub returns-clause-before : goal.returns-clause-before
-returns-clause-before c was old new syncs last = last_before was old new syncs last

@@ -1,5 +1,0 @@
-use Rattle.envy_space.proofs.RisingLemmas.{rising}
-use Rattle.envy_space.proofs.rising.no_row_is_claimed_twice.Goals as goal
-
-pub returns : goal.returns
-returns c = rising

@@ -1,2 +1,0 @@
-pub mod Conserving
-pub mod Giving

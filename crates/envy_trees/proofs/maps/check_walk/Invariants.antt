@@ -1,6 +1,0 @@
-use Rattle.envy_heap.specs.Vectors.{vec_sheet}
-use Rattle.envy_btree.specs.Testing.{IsReady}
-use Rattle.envy_trees.proofs.maps.check_walk.Given as goal
-
-abbrev pub invariant-loop-key : goal.invariant-loop-key
-invariant-loop-key g l = IsReady (vec_sheet l.words)

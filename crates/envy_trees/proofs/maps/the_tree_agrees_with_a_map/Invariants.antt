@@ -1,6 +1,0 @@
-use Rattle.envy_heap.specs.Vectors.{vec_sheet}
-use Rattle.envy_btree.specs.Testing.{IsReady}
-use Rattle.envy_trees.proofs.maps.the_tree_agrees_with_a_map.Given as goal
-
-abbrev pub invariant-loop-i : goal.invariant-loop-i
-invariant-loop-i g l = IsReady (vec_sheet l.words)

@@ -1,6 +1,0 @@
-use Rattle.envy_heap.specs.Vectors.{vec_sheet}
-use Rattle.envy_trees.specs.Beside.{HasBoth}
-use Rattle.envy_trees.proofs.ranges.check_turns.Given as goal
-
-abbrev pub invariant-loop-i : goal.invariant-loop-i
-invariant-loop-i g l = HasBoth (vec_sheet l.words)
