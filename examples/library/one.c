@@ -298,6 +298,7 @@ int main(int count, char **words) {
     over_regions(&m);
     over_a_simulation(&m);
     over_regions(&m);
-    is("an empty place", envy_load(&m, 5, &word), ENVY_EMPTY);
+    is("an empty handle", envy_load(&m, 5, &word), ENVY_EMPTY);
+    is("what a closed handle has", m.at || m.file, 0);
     return failures != 0;
 }

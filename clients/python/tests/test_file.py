@@ -10,7 +10,6 @@ import unittest
 import warnings
 
 import envy
-from envy import place
 
 
 class FileTest(unittest.TestCase):
@@ -173,14 +172,17 @@ class FileTest(unittest.TestCase):
         finally:
             os.umask(before)
 
-    def test_a_handle_is_used_again(self):
-        for i in range(300):
+    def test_a_place_is_used_again(self):
+        places, handles = set(), []
+        for _ in range(300):
             with envy.open(self.path, 100) as m:
                 m[0] += 1
-        self.assertEqual(i + 1, 300)
+                handles.append(m._place.handle)
+                places.add(handles[-1][0])
         with envy.open(self.path) as m:
             self.assertEqual(m[0], 300)
-        self.assertLess(len(place._unused), 300)
+        self.assertEqual(len(places), 1)
+        self.assertEqual({it for handle in handles for it in handle}, {None})
 
     def test_so_many_are_open_at_a_time(self):
         opened = []
