@@ -54,13 +54,13 @@ pub enum Did {
 
 pub(crate) fn did_of(number: u32) -> Did {
     match number {
-        1 => Did::Flushed,
-        2 => Did::Began,
-        3 => Did::Moved,
-        4 => Did::Copied,
-        5 => Did::Switched,
-        6 => Did::Placed,
-        7 => Did::Erased,
+        sys::FLUSHED => Did::Flushed,
+        sys::BEGAN => Did::Began,
+        sys::MOVED => Did::Moved,
+        sys::COPIED => Did::Copied,
+        sys::SWITCHED => Did::Switched,
+        sys::PLACED => Did::Placed,
+        sys::ERASED => Did::Erased,
         _ => Did::Idle,
     }
 }

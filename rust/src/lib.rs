@@ -52,5 +52,5 @@ pub use maps::{Changes, Map, Maps, Pairs};
 pub use memory::{version, Memory};
 pub use opening::Open;
 pub use regions::{Regions, Sizes};
-pub use setup::{Policy, Setup};
+pub use setup::{Policy, Setup, PAGE_WORDS};
 pub use transaction::Transaction;

@@ -7,6 +7,9 @@ use std::io;
 use std::os::unix::ffi::OsStrExt;
 use std::path::Path;
 
+/// Words of a page.
+pub const PAGE_WORDS: u64 = 32;
+
 /// How the cleaner chooses what to clean.
 #[derive(Clone, Copy, Debug, PartialEq, Eq)]
 pub enum Policy {
@@ -64,7 +67,7 @@ impl Setup {
 
     /// How many words the array has.
     pub fn words(&self) -> u64 {
-        32 * u64::from(self.pages)
+        PAGE_WORDS * u64::from(self.pages)
     }
 
     pub(crate) fn of(found: &sys::Setup) -> Setup {
@@ -76,10 +79,10 @@ impl Setup {
             frames: found.frames,
             entries: found.entries,
             policy: match found.policy {
-                1 => Policy::Fifo,
-                2 => Policy::Locality,
-                3 => Policy::Hybrid(found.part),
-                4 => Policy::Lifetime,
+                sys::FIFO => Policy::Fifo,
+                sys::LOCALITY => Policy::Locality,
+                sys::HYBRID => Policy::Hybrid(found.part),
+                sys::LIFETIME => Policy::Lifetime,
                 _ => Policy::Greedy,
             },
             limit: found.limit,
@@ -91,11 +94,11 @@ impl Setup {
 
     pub(crate) fn numbers(&self) -> sys::Setup {
         let (policy, part) = match self.policy {
-            Policy::Greedy => (0, 0),
-            Policy::Fifo => (1, 0),
-            Policy::Locality => (2, 0),
-            Policy::Hybrid(part) => (3, part),
-            Policy::Lifetime => (4, 0),
+            Policy::Greedy => (sys::GREEDY, 0),
+            Policy::Fifo => (sys::FIFO, 0),
+            Policy::Locality => (sys::LOCALITY, 0),
+            Policy::Hybrid(part) => (sys::HYBRID, part),
+            Policy::Lifetime => (sys::LIFETIME, 0),
         };
         sys::Setup {
             segments: self.segments,

@@ -137,6 +137,20 @@ pub const SYSTEM: u32 = 1000;
 pub const LOCKED: u32 = 1001;
 pub const TOO_MANY: u32 = 1002;
 
+pub const GREEDY: u32 = 0;
+pub const FIFO: u32 = 1;
+pub const LOCALITY: u32 = 2;
+pub const HYBRID: u32 = 3;
+pub const LIFETIME: u32 = 4;
+
+pub const FLUSHED: u32 = 1;
+pub const BEGAN: u32 = 2;
+pub const MOVED: u32 = 3;
+pub const COPIED: u32 = 4;
+pub const SWITCHED: u32 = 5;
+pub const PLACED: u32 = 6;
+pub const ERASED: u32 = 7;
+
 pub const CREATE: u32 = 1;
 pub const BYTEWISE: u32 = 2;
 pub const READING: u32 = 4;

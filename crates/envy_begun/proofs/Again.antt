@@ -146,38 +146,38 @@ opens-whole sh file s o setup is whole =
     (durable (chart s), subst (λ (x : Shape). OpensAs x (durable (chart s)) file) (o.shape ∙ is) (opens-as (chart s) file good (reopens sh file s o)))
 
 -- what an audit refused
-pub audited-refrains : (sh : Shape) (file : List ℕ) (s : State) (o : IsOpened sh file s) (setup : Setup) (is : sh ≡ setup.shape) → IsBoard s → checked setup ≡ Ok tt → (unbegun : OpenFault)
-    → (unbegun ≡ Memory) ⊎ ((unbegun ≡ NoJournal) × (code : Code) × (code ≢ NoMemory) × Forbids code (chart s) setup) → Refrains (HasNoWords setup.shape file) file unbegun
-audited-refrains sh file s o setup is board checks unbegun (inl memory) = subst (λ (u : OpenFault). Refrains (HasNoWords setup.shape file) file u) (sym memory) tt
-audited-refrains sh file s o setup is board checks unbegun (inr (none, code, enough, forbids)) =
+pub audited-refrains : (sh : Shape) (file : List ℕ) (s : State) (o : IsOpened sh file s) (setup : Setup) (is : sh ≡ setup.shape) → IsBoard s → checked setup ≡ Ok tt → (open_fault : OpenFault)
+    → (open_fault ≡ Memory) ⊎ ((open_fault ≡ NoJournal) × (code : Code) × (code ≢ NoMemory) × Forbids code (chart s) setup) → Refrains (HasNoWords setup.shape file) file open_fault
+audited-refrains sh file s o setup is board checks open_fault (inl memory) = subst (λ (u : OpenFault). Refrains (HasNoWords setup.shape file) file u) (sym memory) tt
+audited-refrains sh file s o setup is board checks open_fault (inr (none, code, enough, forbids)) =
     subst (λ (u : OpenFault). Refrains (HasNoWords setup.shape file) file u) (sym none) (inr (λ words opens. not-forbidden sh file s o setup is board checks words opens code enough forbids))
 
 -- why a journal wasn't opened, or a memory attached, and the file: by what was found
-module _ {D : Type 0} (seen : D → List ℕ) (has_failed : D → Bool) (old new : D) (unbegun : OpenFault) where
+module _ {D : Type 0} (seen : D → List ℕ) (has_failed : D → Bool) (old new : D) (open_fault : OpenFault) where
   abbrev pub SaysError : OpenError → Type 0
-  SaysError error = ((error ≡ OpenFailed) × (unbegun ≡ Failed 0) × (new ≡ old)) ⊎ ((error ≢ OpenFailed) × IsStopped seen has_failed unbegun new)
+  SaysError error = ((error ≡ OpenFailed) × (open_fault ≡ Failed 0) × (new ≡ old)) ⊎ ((error ≢ OpenFailed) × IsStopped seen has_failed open_fault new)
 
   abbrev pub SaysAttach : AttachFault → ℕ → Type 0
-  SaysAttach fault held = ((fault ≡ AttachOff) × (unbegun ≡ Failed held) × (new ≡ old)) ⊎ ((fault ≢ AttachOff) × IsStopped seen has_failed unbegun new)
+  SaysAttach fault held = ((fault ≡ AttachOff) × (open_fault ≡ Failed held) × (new ≡ old)) ⊎ ((fault ≢ AttachOff) × IsStopped seen has_failed open_fault new)
 
   abbrev pub SaysFault : FormatFault → ℕ → Type 0
-  SaysFault fault held = ((fault ≡ FormatOff) × (unbegun ≡ Failed held) × (new ≡ old)) ⊎ ((fault ≢ FormatOff) × IsStopped seen has_failed unbegun new)
+  SaysFault fault held = ((fault ≡ FormatOff) × (open_fault ≡ Failed held) × (new ≡ old)) ⊎ ((fault ≢ FormatOff) × IsStopped seen has_failed open_fault new)
 
-  stops-as : (held : ℕ) → unbegun ≡ Failed held → new ≡ old → HasStopped seen has_failed held old → IsStopped seen has_failed unbegun new
+  stops-as : (held : ℕ) → open_fault ≡ Failed held → new ≡ old → HasStopped seen has_failed held old → IsStopped seen has_failed open_fault new
   stops-as held why same stopped = subst (λ (u : OpenFault). IsStopped seen has_failed u new) (sym why) (subst (λ (x : D). HasStopped seen has_failed held x) (sym same) stopped)
 
   -- a journal wasn't made or opened
-  pub unopened-stopped : (error : OpenError) → SaysError error → (error ≡ OpenFailed → IsTrue (has_failed old)) → IsStopped seen has_failed unbegun new
+  pub unopened-stopped : (error : OpenError) → SaysError error → (error ≡ OpenFailed → IsTrue (has_failed old)) → IsStopped seen has_failed open_fault new
   unopened-stopped error (inl (is, why, same)) failed = stops-as 0 why same (omega arith, λ few. failed is)
   unopened-stopped error (inr (other, stopped)) failed = stopped
 
   -- a memory wasn't attached
-  pub unattached-stopped : (fault : AttachFault) (held : ℕ) → SaysAttach fault held → (fault ≡ AttachOff → HasStopped seen has_failed held old) → IsStopped seen has_failed unbegun new
+  pub unattached-stopped : (fault : AttachFault) (held : ℕ) → SaysAttach fault held → (fault ≡ AttachOff → HasStopped seen has_failed held old) → IsStopped seen has_failed open_fault new
   unattached-stopped fault held (inl (off, why, same)) stopped = stops-as held why same (stopped off)
   unattached-stopped fault held (inr (on, is)) stopped = is
 
   -- a memory wasn't formatted
-  pub unformatted-stopped : (fault : FormatFault) (held : ℕ) → SaysFault fault held → (fault ≡ FormatOff → HasStopped seen has_failed held old) → IsStopped seen has_failed unbegun new
+  pub unformatted-stopped : (fault : FormatFault) (held : ℕ) → SaysFault fault held → (fault ≡ FormatOff → HasStopped seen has_failed held old) → IsStopped seen has_failed open_fault new
   unformatted-stopped fault held (inl (off, why, same)) stopped = stops-as held why same (stopped off)
   unformatted-stopped fault held (inr (on, is)) stopped = is
 
@@ -203,15 +203,15 @@ module _ {M D : Type 0} (seen : D → List ℕ) (has_failed : D → Bool) (Reaso
   all-declines (Err e) stopped = inr stopped
 
 -- a reason for another
-pub refrains-for : (P Q : Type 0) (file : List ℕ) (unbegun : OpenFault) → (P → Q) → Refrains P file unbegun → Refrains Q file unbegun
+pub refrains-for : (P Q : Type 0) (file : List ℕ) (open_fault : OpenFault) → (P → Q) → Refrains P file open_fault → Refrains Q file open_fault
 refrains-for P Q file NoJournal goes r = goes r
 refrains-for P Q file (Damaged place) goes r = r
 refrains-for P Q file Memory goes r = r
 refrains-for P Q file other goes r = absurd r
 
-pub declines-for : {D : Type 0} (seen : D → List ℕ) (has_failed : D → Bool) (P Q : Type 0) (file : List ℕ) (old : D) (unbegun : OpenFault) (new : D) → (P → Q) → Declines seen has_failed P file old unbegun new → Declines seen has_failed Q file old unbegun new
-declines-for seen has_failed P Q file old unbegun new goes (inl (r, same)) = inl (refrains-for P Q file unbegun goes r, same)
-declines-for seen has_failed P Q file old unbegun new goes (inr stopped) = inr stopped
+pub declines-for : {D : Type 0} (seen : D → List ℕ) (has_failed : D → Bool) (P Q : Type 0) (file : List ℕ) (old : D) (open_fault : OpenFault) (new : D) → (P → Q) → Declines seen has_failed P file old open_fault new → Declines seen has_failed Q file old open_fault new
+declines-for seen has_failed P Q file old open_fault new goes (inl (r, same)) = inl (refrains-for P Q file open_fault goes r, same)
+declines-for seen has_failed P Q file old open_fault new goes (inr stopped) = inr stopped
 
 -- what holds at Ok
 pub ok_on : {T E : Type 0} {P Q : T → Type 0} (result : Result T E) → IfOk result P → ((x : T) → P x → Q x) → IfOk result Q

@@ -49,7 +49,7 @@ no-more may_leave moment left_since old new time crash now t c early left = ⊎_
 
 -- what is left, by what a file held
 pub all-stays : {M D : Type 0} (left_since : D → ℕ → List ℕ → Type 0) (moment : D → ℕ) (sh : Shape) (was : List ℕ) (holding held : FileContents) (result : Result M (OpenFault × D)) (Such : OpenFault → List ℕ → Type 0)
-    → holding ≡ held → ((unbegun : OpenFault) (file : List ℕ) → Such unbegun file → Stays held unbegun sh was file)
+    → holding ≡ held → ((open_fault : OpenFault) (file : List ℕ) → Such open_fault file → Stays held open_fault sh was file)
     → IfErr result (λ e. Leaves left_since moment e.1 (Such e.0)) → IfErr result (λ e. Leaves left_since moment e.1 (Stays holding e.0 sh was))
 all-stays left_since moment sh was holding held result Such is goes left =
     err_on result left (λ e l. subst (λ (h : FileContents). Leaves left_since moment e.1 (Stays h e.0 sh was)) (sym is) (leaves-as left_since moment e.1 (Such e.0) (Stays held e.0 sh was) (goes e.0) l))
@@ -75,7 +75,7 @@ pub leaves-still : {D : Type 0} (may_leave : D → List ℕ → Type 0) (left_si
     → (Such : List ℕ → Type 0) → ((file : List ℕ) → file ≡ was → Such file) → Leaves left_since moment device Such
 leaves-still may_leave left_since moment device was only now Such same = record { since = moment device; before = omega arith; each = λ file left. ∣ same file (only file (now file left)) ∣₁ }
 
-pub still-written : (Reason : Type 0) (sh : Shape) (was : List ℕ) (unbegun : OpenFault) → Refrains Reason was unbegun → (file : List ℕ) → file ≡ was → StaysWritten unbegun sh was file
+pub still-written : (Reason : Type 0) (sh : Shape) (was : List ℕ) (open_fault : OpenFault) → Refrains Reason was open_fault → (file : List ℕ) → file ≡ was → StaysWritten open_fault sh was file
 still-written Reason sh was NoJournal r file same = same
 still-written Reason sh was (Damaged place) r file same = same
 still-written Reason sh was Memory r file same = inl same
@@ -88,7 +88,7 @@ still-written Reason sh was (Failed held) r file same = absurd r
 
 -- where a file is alike it is so also where less is said
 module _ {D : Type 0} (seen : D → List ℕ) (has_failed : D → Bool) (device : D) where
-  pub alike-stays : (sh : Shape) (was : List ℕ) (unbegun : OpenFault) → IsStopped seen has_failed unbegun device → (file : List ℕ) → OpensAlike sh was file → StaysWritten unbegun sh was file
+  pub alike-stays : (sh : Shape) (was : List ℕ) (open_fault : OpenFault) → IsStopped seen has_failed open_fault device → (file : List ℕ) → OpensAlike sh was file → StaysWritten open_fault sh was file
   alike-stays sh was (Failed held) stopped file alike = inl alike
   alike-stays sh was Memory stopped file alike = inr alike
   alike-stays sh was NotMade stopped file alike = inr alike
@@ -154,16 +154,16 @@ module _ {D : Type 0} (left_since : D → ℕ → List ℕ → Type 0) (moment :
       (λ file alike. inl alike) (λ file r. inr (kept-words sh was s t o kept file r))
 
   -- a memory wasn't attached, by the fault
-  pub fault-leaves : (seen : D → List ℕ) (has_failed : D → Bool) (setup : OfSetup) (new : D) (unbegun : OpenFault) (fault : AttachFault) (held : ℕ) → AttachDeclines s setup fault t → SaysAttach seen has_failed device new unbegun fault held
-      → moment device ≤ moment new → ((n : ℕ) (file : List ℕ) → n ≤ moment device → left_since new n file → left_since device n file) → Leaves left_since moment new (StaysWritten unbegun sh was)
-  fault-leaves seen has_failed setup new unbegun fault held d says later only = leaves-on left_since moment device new (StaysWritten unbegun sh was) later only (go says)
+  pub fault-leaves : (seen : D → List ℕ) (has_failed : D → Bool) (setup : OfSetup) (new : D) (open_fault : OpenFault) (fault : AttachFault) (held : ℕ) → AttachDeclines s setup fault t → SaysAttach seen has_failed device new open_fault fault held
+      → moment device ≤ moment new → ((n : ℕ) (file : List ℕ) → n ≤ moment device → left_since new n file → left_since device n file) → Leaves left_since moment new (StaysWritten open_fault sh was)
+  fault-leaves seen has_failed setup new open_fault fault held d says later only = leaves-on left_since moment device new (StaysWritten open_fault sh was) later only (go says)
     where
-      lit : IsStopped seen has_failed unbegun new → (fault ≡ AttachOff → ⊥) → Leaves left_since moment device (StaysWritten unbegun sh was)
+      lit : IsStopped seen has_failed open_fault new → (fault ≡ AttachOff → ⊥) → Leaves left_since moment device (StaysWritten open_fault sh was)
       lit stopped on =
           let same = attach-same fault s t setup on d in
-          leaves-as left_since moment device (OpensAlike sh was) (StaysWritten unbegun sh was) (alike-stays seen has_failed new sh was unbegun stopped)
+          leaves-as left_since moment device (OpensAlike sh was) (StaysWritten open_fault sh was) (alike-stays seen has_failed new sh was open_fault stopped)
           (leaves-alike (subst (λ (x : State). IsOpened sh was x) (sym same) o) (subst (λ (x : State). IsLast (chart s) (chart x)) (sym same) (record { shape = refl; sync = refl })))
 
-      go : SaysAttach seen has_failed device new unbegun fault held → Leaves left_since moment device (StaysWritten unbegun sh was)
+      go : SaysAttach seen has_failed device new open_fault fault held → Leaves left_since moment device (StaysWritten open_fault sh was)
       go (inl (off, why, goes)) = subst (λ (u : OpenFault). Leaves left_since moment device (StaysWritten u sh was)) (sym why) (off-leaves setup held (subst (λ (x : AttachFault). AttachDeclines s setup x t) off d))
       go (inr (on, stopped)) = lit stopped on

@@ -16,7 +16,7 @@ use Rattle.envy_journal.specs.declared.operation.Operation.{Operation}
 use Rattle.envy_policy.specs.declared.setup.Setup.{Setup as OfSetup}
 
 module _ {D : Type 0} (seen : D → List ℕ) (has_failed : D → Bool) (options : KeepOptions) (file : List ℕ) (old new : D) where
-  pub refused-causes : (unbegun : OpenFault) → Refuses options file unbegun → new ≡ old → Causes seen has_failed options file old new unbegun
+  pub refused-causes : (open_fault : OpenFault) → Refuses options file open_fault → new ≡ old → Causes seen has_failed options file old new open_fault
   refused-causes (Setup fault) r same = (r, same)
   refused-causes NoJournal r same = (r, same)
   refused-causes (Damaged place) r same = (r, same)
@@ -27,7 +27,7 @@ module _ {D : Type 0} (seen : D → List ℕ) (has_failed : D → Bool) (options
   refused-causes NotMade r same = absurd r
   refused-causes (Failed held) r same = absurd r
 
-  pub stopped-causes : (unbegun : OpenFault) → IsStopped seen has_failed unbegun new → Causes seen has_failed options file old new unbegun
+  pub stopped-causes : (open_fault : OpenFault) → IsStopped seen has_failed open_fault new → Causes seen has_failed options file old new open_fault
   stopped-causes (Setup fault) s = absurd s
   stopped-causes NoJournal s = absurd s
   stopped-causes (Damaged place) s = absurd s
@@ -38,7 +38,7 @@ module _ {D : Type 0} (seen : D → List ℕ) (has_failed : D → Bool) (options
   stopped-causes NotMade s = s
   stopped-causes (Failed held) s = s
 
-  refrained-causes : (setup : OfSetup) (unbegun : OpenFault) → IsFound options file setup → Refrains (HasNoMemory setup.shape file) file unbegun → new ≡ old → Causes seen has_failed options file old new unbegun
+  refrained-causes : (setup : OfSetup) (open_fault : OpenFault) → IsFound options file setup → Refrains (HasNoMemory setup.shape file) file open_fault → new ≡ old → Causes seen has_failed options file old new open_fault
   refrained-causes setup NoJournal f r same = ((IsFound.made f, inr (setup.shape, IsOver.head (IsFound.over f), IsOver.six (IsFound.over f), inr r)), same)
   refrained-causes setup (Damaged place) f r same = ((IsFound.made f, setup.shape, IsFound.over f, r), same)
   refrained-causes setup Memory f r same = inl same
@@ -49,12 +49,12 @@ module _ {D : Type 0} (seen : D → List ℕ) (has_failed : D → Bool) (options
   refrained-causes setup (Options fault) f r same = absurd r
   refrained-causes setup (Failed held) f r same = absurd r
 
-  pub declined-causes : (setup : OfSetup) (unbegun : OpenFault) → IsFound options file setup → Declines seen has_failed (HasNoMemory setup.shape file) file old unbegun new → Causes seen has_failed options file old new unbegun
-  declined-causes setup unbegun f (inl (r, same)) = refrained-causes setup unbegun f r same
-  declined-causes setup unbegun f (inr stopped) = stopped-causes unbegun stopped
+  pub declined-causes : (setup : OfSetup) (open_fault : OpenFault) → IsFound options file setup → Declines seen has_failed (HasNoMemory setup.shape file) file old open_fault new → Causes seen has_failed options file old new open_fault
+  declined-causes setup open_fault f (inl (r, same)) = refrained-causes setup open_fault f r same
+  declined-causes setup open_fault f (inr stopped) = stopped-causes open_fault stopped
 
   -- at status 6 the file has failed, or with what was held back from it is at the end of its range
-  pub stopped-unserved : (unbegun : OpenFault) (status held : ℕ) → status ≡ status_for unbegun → held ≡ held_for unbegun → Causes seen has_failed options file old new unbegun → status ≡ 6 → HasStopped seen has_failed held new
+  pub stopped-unserved : (open_fault : OpenFault) (status held : ℕ) → status ≡ status_for open_fault → held ≡ held_for open_fault → Causes seen has_failed options file old new open_fault → status ≡ 6 → HasStopped seen has_failed held new
   stopped-unserved (Setup fault) status held is held_is causes six = let never : 2 ≡ 6 = sym is ∙ six in absurd (omega arith)
   stopped-unserved NoJournal status held is held_is causes six = let never : 10 ≡ 6 = sym is ∙ six in absurd (omega arith)
   stopped-unserved (Damaged place) status held is held_is causes six = let never : 10 ≡ 6 = sym is ∙ six in absurd (omega arith)
@@ -77,7 +77,7 @@ pub some-misfit : (sh : Shape) (file : List ℕ) → HasMisfit sh (operations fi
 some-misfit sh file misfit none = let gone = subst (λ (l : List Operation). Contains l misfit.0) none misfit.1 in omega (arith, gone.1)
 
 -- a reason that comes behind a plan
-pub later : (options : KeepOptions) (file : List ℕ) (unbegun : OpenFault) → IsPlanned options file → ComesLater options file unbegun
+pub later : (options : KeepOptions) (file : List ℕ) (open_fault : OpenFault) → IsPlanned options file → ComesLater options file open_fault
 later options file Memory planned = planned
 later options file NotMade planned = planned
 later options file (Failed held) planned = planned
@@ -89,7 +89,7 @@ later options file OtherSizes planned = tt
 later options file (Options fault) planned = tt
 
 -- and one that comes with it
-pub sooner : (options : KeepOptions) (file : List ℕ) (unbegun : OpenFault) → Refuses options file unbegun → ComesLater options file unbegun
+pub sooner : (options : KeepOptions) (file : List ℕ) (open_fault : OpenFault) → Refuses options file open_fault → ComesLater options file open_fault
 sooner options file Memory refuses = absurd refuses
 sooner options file NotMade refuses = absurd refuses
 sooner options file (Failed held) refuses = absurd refuses

@@ -34,7 +34,7 @@ use Rattle.envy_synced.specs.Disk.{CrashLeaves, IsLast, IsSynced, Reopens}
 
 -- where nothing was done in a journal it is so also where less is said
 module _ {D : Type 0} (seen : D → List ℕ) (has_failed : D → Bool) (device : D) where
-  pub stands-stays : (sh : Shape) (was : List ℕ) (unbegun : OpenFault) → IsStopped seen has_failed unbegun device → (file : List ℕ) → StandsFor sh [] file → StaysNew unbegun sh was file
+  pub stands-stays : (sh : Shape) (was : List ℕ) (open_fault : OpenFault) → IsStopped seen has_failed open_fault device → (file : List ℕ) → StandsFor sh [] file → StaysNew open_fault sh was file
   stands-stays sh was (Failed held) stopped file stands = inl stands
   stands-stays sh was Memory stopped file stands = inr stands
   stands-stays sh was NotMade stopped file stands = inr stands
@@ -46,11 +46,11 @@ module _ {D : Type 0} (seen : D → List ℕ) (has_failed : D → Bool) (device 
   stands-stays sh was (Damaged place) stopped file stands = absurd stopped
 
   -- what creating a journal may leave
-  pub new-stays : (made sh : Shape) → made ≡ sh → (unbegun : OpenFault) → IsStopped seen has_failed unbegun device → (file : List ℕ) → IsNewOrUnmade made file → IsUnmade file ⊎ StaysNew unbegun sh [] file
-  new-stays made sh is unbegun stopped file (inl unmade) = inl unmade
-  new-stays made sh is unbegun stopped file (inr stands) = inr (stands-stays sh [] unbegun stopped file (subst (λ (x : Shape). StandsFor x [] file) is stands))
+  pub new-stays : (made sh : Shape) → made ≡ sh → (open_fault : OpenFault) → IsStopped seen has_failed open_fault device → (file : List ℕ) → IsNewOrUnmade made file → IsUnmade file ⊎ StaysNew open_fault sh [] file
+  new-stays made sh is open_fault stopped file (inl unmade) = inl unmade
+  new-stays made sh is open_fault stopped file (inr stands) = inr (stands-stays sh [] open_fault stopped file (subst (λ (x : Shape). StandsFor x [] file) is stands))
 
-pub still-new : (Reason : Type 0) (sh : Shape) (was : List ℕ) (unbegun : OpenFault) → Refrains Reason was unbegun → (file : List ℕ) → file ≡ was → StaysNew unbegun sh was file
+pub still-new : (Reason : Type 0) (sh : Shape) (was : List ℕ) (open_fault : OpenFault) → Refrains Reason was open_fault → (file : List ℕ) → file ≡ was → StaysNew open_fault sh was file
 still-new Reason sh was NoJournal r file same = same
 still-new Reason sh was (Damaged place) r file same = same
 still-new Reason sh was Memory r file same = inl same
@@ -142,13 +142,13 @@ module _ {D : Type 0} (left_since : D → ℕ → List ℕ → Type 0) (moment :
   format-on setup fault other r = lit-leaves left_since moment sh device (chart s) (chart t) synced none is last crash (refused-on s t setup fault other r)
 
   -- a memory wasn't formatted
-  pub format-leaves : (before : List ℕ) (seen : D → List ℕ) (has_failed : D → Bool) (setup : OfSetup) (new : D) (unbegun : OpenFault) (fault : FormatFault) (held : ℕ) → Refuses s setup fault t → SaysFault seen has_failed device new unbegun fault held
-      → moment device ≤ moment new → ((n : ℕ) (file : List ℕ) → n ≤ moment device → left_since new n file → left_since device n file) → Leaves left_since moment new (StaysNew unbegun sh before)
-  format-leaves before seen has_failed setup new unbegun fault held r says later only = leaves-on left_since moment device new (StaysNew unbegun sh before) later only (go says)
+  pub format-leaves : (before : List ℕ) (seen : D → List ℕ) (has_failed : D → Bool) (setup : OfSetup) (new : D) (open_fault : OpenFault) (fault : FormatFault) (held : ℕ) → Refuses s setup fault t → SaysFault seen has_failed device new open_fault fault held
+      → moment device ≤ moment new → ((n : ℕ) (file : List ℕ) → n ≤ moment device → left_since new n file → left_since device n file) → Leaves left_since moment new (StaysNew open_fault sh before)
+  format-leaves before seen has_failed setup new open_fault fault held r says later only = leaves-on left_since moment device new (StaysNew open_fault sh before) later only (go says)
     where
-      go : SaysFault seen has_failed device new unbegun fault held → Leaves left_since moment device (StaysNew unbegun sh before)
+      go : SaysFault seen has_failed device new open_fault fault held → Leaves left_since moment device (StaysNew open_fault sh before)
       go (inl (off, why, goes)) = subst (λ (u : OpenFault). Leaves left_since moment device (StaysNew u sh before)) (sym why) (format-off before setup held (subst (λ (f : FormatFault). Refuses s setup f t) off r))
-      go (inr (other, stopped)) = leaves-as left_since moment device (StandsFor sh []) (StaysNew unbegun sh before) (stands-stays seen has_failed new sh before unbegun stopped) (format-on setup fault other r)
+      go (inr (other, stopped)) = leaves-as left_since moment device (StandsFor sh []) (StaysNew open_fault sh before) (stands-stays seen has_failed new sh before open_fault stopped) (format-on setup fault other r)
 
 pub off-refused : (s t : State) (setup : OfSetup) (fault : FormatFault) → Refuses s setup fault t → fault ≡ FormatOff → t.on ≡ false
 off-refused s t setup fault r off = (subst (λ (f : FormatFault). Refuses s setup f t) off r).0

@@ -71,6 +71,6 @@ StaysWritten other sh was file = file ≡ was
 
 -- what is left of a file, by what it held
 abbrev pub Stays : FileContents → OpenFault → Shape → List ℕ → List ℕ → Type 0
-Stays Unmade unbegun sh was file = IsUnmade file ⊎ StaysNew unbegun sh [] file
-Stays Blank unbegun sh was file = StaysNew unbegun sh was file
-Stays Written unbegun sh was file = StaysWritten unbegun sh was file
+Stays Unmade open_fault sh was file = IsUnmade file ⊎ StaysNew open_fault sh [] file
+Stays Blank open_fault sh was file = StaysNew open_fault sh was file
+Stays Written open_fault sh was file = StaysWritten open_fault sh was file

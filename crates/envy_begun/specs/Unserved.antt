@@ -84,7 +84,7 @@ abbrev pub Causes : {D : Type 0} → (D → List ℕ) → (D → Bool) → KeepO
 Causes seen has_failed options file old new (Failed held) = HasStopped seen has_failed held new
 Causes seen has_failed options file old new Memory = (new ≡ old) ⊎ (has_failed new ≡ false)
 Causes seen has_failed options file old new NotMade = has_failed new ≡ false
-Causes seen has_failed options file old new unbegun = Refuses options file unbegun × (new ≡ old)
+Causes seen has_failed options file old new open_fault = Refuses options file open_fault × (new ≡ old)
 
 -- why a journal isn't taken up before the first call on its file: of its own reasons this one alone
 abbrev pub Refrains : Type 0 → List ℕ → OpenFault → Type 0
@@ -95,4 +95,4 @@ Refrains Reason file other = ⊥
 
 -- why it isn't taken up, and what became of its file
 abbrev pub Declines : {D : Type 0} → (D → List ℕ) → (D → Bool) → Type 0 → List ℕ → D → OpenFault → D → Type 0
-Declines seen has_failed Reason file old unbegun new = (Refrains Reason file unbegun × (new ≡ old)) ⊎ IsStopped seen has_failed unbegun new
+Declines seen has_failed Reason file old open_fault new = (Refrains Reason file open_fault × (new ≡ old)) ⊎ IsStopped seen has_failed open_fault new

@@ -49,7 +49,7 @@ fn sizes(bytes: &[u8]) -> Result<Shape, OpenFault>
     ensures six { IfOk result (λ shape. HasSixSizes shape) }
     ensures long { IfOk result (λ _. 33 ≤ length bytes.now) }
     ensures checks { IfOk result (λ shape. shape_checked shape ≡ Ok tt) }
-    ensures refused { IfErr result (λ unbegun. (options : Options) → Refuses options bytes.now unbegun) }
+    ensures refused { IfErr result (λ open_fault. (options : Options) → Refuses options bytes.now open_fault) }
 {
     let shape = match read_head(bytes) {
         Ok(shape) => shape,
@@ -69,7 +69,7 @@ fn found(options: &KeepOptions, bytes: &[u8]) -> Result<Setup, OpenFault>
     ensures long { IfOk result (λ _. 33 ≤ length bytes.now) }
     ensures checks { IfOk result (λ setup. checked setup ≡ Ok tt) }
     ensures shape { IfOk result (λ setup. IsShape setup.shape) }
-    ensures refused { IfErr result (λ unbegun. Refuses options.now bytes.now unbegun) }
+    ensures refused { IfErr result (λ open_fault. Refuses options.now bytes.now open_fault) }
 {
     let shape = sizes(bytes)?;
     if options.sizes.over(&shape) != shape {
@@ -87,7 +87,7 @@ fn new_setup(options: &KeepOptions) -> Result<Setup, OpenFault>
     ensures setup { IfOk result (λ setup. setup ≡ setup_over options.now (new_shape options.now)) }
     ensures checks { IfOk result (λ setup. checked setup ≡ Ok tt) }
     ensures shape { IfOk result (λ setup. IsShape setup.shape) }
-    ensures refused { IfErr result (λ unbegun. (fault : SetupFault) × (unbegun ≡ OfSetup fault)
+    ensures refused { IfErr result (λ open_fault. (fault : SetupFault) × (open_fault ≡ OfSetup fault)
         × (checked (setup_over options.now (new_shape options.now)) ≡ Err fault)) }
 {
     let setup = options.setup(&options.new_shape());
@@ -102,7 +102,7 @@ pub fn plan(options: &KeepOptions, bytes: &[u8]) -> Result<(Setup, FileContents)
     ensures plans { IfOk result (λ plan. Plans plan.1 options.now bytes.now plan.0) }
     ensures checks { IfOk result (λ plan. checked plan.0 ≡ Ok tt) }
     ensures shape { IfOk result (λ plan. IsShape plan.0.shape) }
-    ensures refused { IfErr result (λ unbegun. Refuses options.now bytes.now unbegun) }
+    ensures refused { IfErr result (λ open_fault. Refuses options.now bytes.now open_fault) }
 {
     if bytes.is_empty() {
         let fresh = new_setup(options)?;

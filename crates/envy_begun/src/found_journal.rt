@@ -89,7 +89,7 @@ fn read_journal<B: Steady>(
     let end = replayed(board, bytes)?;
     match audited(alloc, board, setup) {
         Ok(()) => Ok(end),
-        Err(unbegun) => Err(unbegun),
+        Err(open_fault) => Err(open_fault),
     }
 }
 
@@ -180,7 +180,7 @@ fn opened_as_asked<B: Steady + Drop, D: Replaceable + Drop>(
 {
     match opened(alloc, board, device, bytes, end) {
         Ok(kept) => compacted(kept, compact),
-        Err(unbegun) => Err(unbegun),
+        Err(open_fault) => Err(open_fault),
     }
 }
 
@@ -207,11 +207,11 @@ pub(crate) fn begin_blank<B: Steady + Drop, D: Replaceable + Drop>(
 {
     let end = match replayed(&mut board, bytes) {
         Ok(end) => end,
-        Err(unbegun) => return Err((unbegun, device)),
+        Err(open_fault) => return Err((open_fault, device)),
     };
     let kept = match opened(alloc, board, device, bytes, end) {
         Ok(kept) => kept,
-        Err(unbegun) => return Err(unbegun),
+        Err(open_fault) => return Err(open_fault),
     };
     make_memory(alloc, kept, setup)
 }
@@ -249,11 +249,11 @@ pub fn begin_again<B: Steady + Drop, D: Replaceable + Drop>(
 {
     let end = match read_journal(alloc, &mut board, bytes, &setup) {
         Ok(end) => end,
-        Err(unbegun) => return Err((unbegun, device)),
+        Err(open_fault) => return Err((open_fault, device)),
     };
     let kept = match opened_as_asked(alloc, board, device, bytes, end, compact) {
         Ok(kept) => kept,
-        Err(unbegun) => return Err(unbegun),
+        Err(open_fault) => return Err(open_fault),
     };
     match Memory::attach(alloc, kept, setup) {
         Ok(memory) => Ok(memory),

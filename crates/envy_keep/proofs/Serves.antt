@@ -54,23 +54,23 @@ as-it-was seen may_leave left_since moment device file is durable only = record 
   each = λ c left. ∣ durable c (only c left) ∙ is ∣₁;
 }
 
-module _ {D : Type 0} (seen : D → List ℕ) (has_failed : D → Bool) (left_since : D → ℕ → List ℕ → Type 0) (moment : D → ℕ) (options : KeepOptions) (file : List ℕ) (old device new : D) (unbegun : OpenFault) where
-  pub unserved-as : (end : Told) (feed : Feed) (drain : Drain) → end ≡ told (status_for unbegun) (why_for unbegun) 0 0 (place_for unbegun) → new ≡ device → Causes seen has_failed options file old device unbegun → ComesLater options file unbegun
-      → LeavesUnserved left_since moment options file unbegun device
+module _ {D : Type 0} (seen : D → List ℕ) (has_failed : D → Bool) (left_since : D → ℕ → List ℕ → Type 0) (moment : D → ℕ) (options : KeepOptions) (file : List ℕ) (old device new : D) (fault : OpenFault) where
+  pub unserved-as : (end : Told) (feed : Feed) (drain : Drain) → end ≡ told (status_for fault) (why_for fault) 0 0 (place_for fault) → new ≡ device → Causes seen has_failed options file old device fault → ComesLater options file fault
+      → LeavesUnserved left_since moment options file fault device
       → IsUnserved seen has_failed left_since moment options file old new end (record { from = feed; feed = feed; to = drain; sink = drain })
   unserved-as end feed drain says same causes later left = record {
-    unbegun = unbegun;
+    fault = fault;
     says = says;
-    causes = subst (λ (d : D). Causes seen has_failed options file old d unbegun) (sym same) causes;
+    causes = subst (λ (d : D). Causes seen has_failed options file old d fault) (sym same) causes;
     later = later;
-    left = subst (λ (d : D). LeavesUnserved left_since moment options file unbegun d) (sym same) left;
+    left = subst (λ (d : D). LeavesUnserved left_since moment options file fault d) (sym same) left;
     source = refl;
     sink = refl;
   }
 
 -- status 6 of a file that was not served comes of its device
-pub unserved-stopped : {D : Type 0} (seen : D → List ℕ) (has_failed : D → Bool) (options : KeepOptions) (file : List ℕ) (old device new : D) (unbegun : OpenFault) (status why lines taken place held : ℕ)
-    → told status why lines taken place ≡ told (status_for unbegun) (why_for unbegun) 0 0 (place_for unbegun) → new ≡ device → held ≡ held_for unbegun → Causes seen has_failed options file old device unbegun
+pub unserved-stopped : {D : Type 0} (seen : D → List ℕ) (has_failed : D → Bool) (options : KeepOptions) (file : List ℕ) (old device new : D) (fault : OpenFault) (status why lines taken place held : ℕ)
+    → told status why lines taken place ≡ told (status_for fault) (why_for fault) 0 0 (place_for fault) → new ≡ device → held ≡ held_for fault → Causes seen has_failed options file old device fault
     → status ≡ 6 → HasStopped seen has_failed held new
-unserved-stopped {D} seen has_failed options file old device new unbegun status why lines taken place held says same held_is causes six =
-    stopped-unserved seen has_failed options file old new unbegun status held (ap (λ (t : Told). t.status) says) held_is (subst (λ (d : D). Causes seen has_failed options file old d unbegun) (sym same) causes) six
+unserved-stopped {D} seen has_failed options file old device new fault status why lines taken place held says same held_is causes six =
+    stopped-unserved seen has_failed options file old new fault status held (ap (λ (t : Told). t.status) says) held_is (subst (λ (d : D). Causes seen has_failed options file old d fault) (sym same) causes) six

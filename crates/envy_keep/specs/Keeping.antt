@@ -54,16 +54,16 @@ pub record IsServed (options : KeepOptions) (file : List ℕ) (end : Told) (left
 -- What a crash leaves of a file that isn't served: it as it was; or, where a memory was to begin in it, what is left by what
 -- it held.
 abbrev pub LeavesUnserved : {D : Type 0} → (D → ℕ → List ℕ → Type 0) → (D → ℕ) → KeepOptions → List ℕ → OpenFault → D → Type 0
-LeavesUnserved left_since moment options file unbegun device =
+LeavesUnserved left_since moment options file fault device =
     Leaves left_since moment device (λ c. c ≡ file)
-    ⊎ ((setup : Setup) × (holding : FileContents) × Plans holding options file setup × Leaves left_since moment device (Stays holding unbegun setup.shape file))
+    ⊎ ((setup : Setup) × (holding : FileContents) × Plans holding options file setup × Leaves left_since moment device (Stays holding fault setup.shape file))
 
 -- nothing was read or written on the streams
 pub record IsUnserved {D : Type 0} (seen : D → List ℕ) (has_failed : D → Bool) (left_since : D → ℕ → List ℕ → Type 0) (moment : D → ℕ) (options : KeepOptions) (file : List ℕ) (old new : D) (end : Told) (io : Streams) : Type 0 where
-  pub unbegun : OpenFault
-  pub says : end ≡ told (status_for unbegun) (why_for unbegun) 0 0 (place_for unbegun)
-  pub causes : Causes seen has_failed options file old new unbegun
-  pub later : ComesLater options file unbegun
-  pub left : LeavesUnserved left_since moment options file unbegun new
+  pub fault : OpenFault
+  pub says : end ≡ told (status_for fault) (why_for fault) 0 0 (place_for fault)
+  pub causes : Causes seen has_failed options file old new fault
+  pub later : ComesLater options file fault
+  pub left : LeavesUnserved left_since moment options file fault new
   pub source : io.feed ≡ io.from
   pub sink : io.sink ≡ io.to

@@ -21,23 +21,23 @@ use envy_region::OwnedBoard;
 use std::alloc::Global;
 
 // The end where nothing is served.
-fn unserved<D>(unbegun: OpenFault, device: D) -> KeepEnded<D>
+fn unserved<D>(fault: OpenFault, device: D) -> KeepEnded<D>
     ensures says { told result.status result.why result.lines result.taken result.place
-        ≡ told (status_for unbegun) (why_for unbegun) 0 0 (place_for unbegun) }
+        ≡ told (status_for fault) (why_for fault) 0 0 (place_for fault) }
     ensures lines { result.lines ≡ 0 }
     ensures taken { result.taken ≡ 0 }
     ensures device { result.device ≡ device }
-    ensures held { result.held ≡ held_for unbegun }
+    ensures held { result.held ≡ held_for fault }
 {
-    let (status, why) = unbegun.numbers();
+    let (status, why) = fault.numbers();
     KeepEnded {
         status,
         why,
         lines: 0,
         taken: 0,
-        place: unbegun.place() as u64,
+        place: fault.place() as u64,
         device,
-        held: unbegun.held(),
+        held: fault.held(),
     }
 }
 
@@ -73,7 +73,7 @@ fn serve_on<S: Source, K: Sink, B: Steady + Drop, D: Replaceable + Drop>(
             memory.invariant_holds();
             serve_kept(memory, source, sink)
         }
-        Err((unbegun, device)) => unserved(unbegun, device),
+        Err((fault, device)) => unserved(fault, device),
     }
 }
 
@@ -106,7 +106,7 @@ pub fn keep<S: Source, K: Sink, D: Replaceable + Drop>(
 {
     let (setup, holding) = match plan(options, bytes) {
         Ok(plan) => plan,
-        Err(unbegun) => return unserved(unbegun, device),
+        Err(fault) => return unserved(fault, device),
     };
     let Ok(board) = OwnedBoard::blank(alloc, &setup.shape) else {
         return unserved(OpenFault::Memory, device);

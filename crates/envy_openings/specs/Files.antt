@@ -9,7 +9,7 @@ use Rattle.envy_begun.specs.Unserved.{Refuses}
 use Rattle.envy_begun.specs.declared.file_contents.FileContents.{FileContents}
 use Rattle.envy_begun.specs.declared.file_contents.FileContents.TheVariants.{Written}
 use Rattle.envy_begun.specs.declared.open_fault.OpenFault.{OpenFault}
-use Rattle.envy_begun.specs.declared.open_fault.OpenFault.TheVariants as unbegun
+use Rattle.envy_begun.specs.declared.open_fault.OpenFault.TheVariants as open_fault
 use Rattle.envy_calls.specs.Making.{ForSetup, IsNoSetup}
 use Rattle.envy_calls.specs.Setups.{setup_of}
 use Rattle.envy_calls.specs.declared.code.Code.{Code}
@@ -62,22 +62,22 @@ pub record Opened (given : EnvySetup) (file : List ℕ) (p : Picture) : Type 0 w
 -- Why none began by a setup that breaks no rule: what the file holds; or, where that is no reason, memory ran out, or the
 -- file failed or is at the end of its range
 abbrev pub RefusesFile : KeepOptions → List ℕ → OpenFault → Type 0
-RefusesFile options file unbegun.Memory = IsPlanned options file
-RefusesFile options file unbegun.NotMade = IsPlanned options file
-RefusesFile options file (unbegun.Failed held) = IsPlanned options file
+RefusesFile options file open_fault.Memory = IsPlanned options file
+RefusesFile options file open_fault.NotMade = IsPlanned options file
+RefusesFile options file (open_fault.Failed held) = IsPlanned options file
 RefusesFile options file why = Refuses options file why
 
 -- the answer where no memory began in a file
-abbrev pub code_of_unbegun : OpenFault → PlaceCode
-code_of_unbegun (unbegun.Setup fault) = Of (Setup fault)
-code_of_unbegun unbegun.NoJournal = NoJournal
-code_of_unbegun unbegun.OtherVersion = OtherVersion
-code_of_unbegun (unbegun.Damaged place) = Damaged
-code_of_unbegun unbegun.OtherSizes = Of OtherShape
-code_of_unbegun (unbegun.Options fault) = Of (Setup fault)
-code_of_unbegun unbegun.Memory = Of NoMemory
-code_of_unbegun unbegun.NotMade = Of Off
-code_of_unbegun (unbegun.Failed held) = Of Off
+abbrev pub code_of_fault : OpenFault → PlaceCode
+code_of_fault (open_fault.Setup fault) = Of (Setup fault)
+code_of_fault open_fault.NoJournal = NoJournal
+code_of_fault open_fault.OtherVersion = OtherVersion
+code_of_fault (open_fault.Damaged place) = Damaged
+code_of_fault open_fault.OtherSizes = Of OtherShape
+code_of_fault (open_fault.Options fault) = Of (Setup fault)
+code_of_fault open_fault.Memory = Of NoMemory
+code_of_fault open_fault.NotMade = Of Off
+code_of_fault (open_fault.Failed held) = Of Off
 
 -- Why none was opened: there is no setup; or it has reserves, for which a file has no room yet; or with the setup, no
 -- memory began in the file.
@@ -85,7 +85,7 @@ abbrev pub RefusesOpen : EnvySetup → List ℕ → PlaceCode → Type 0
 RefusesOpen given file code =
     ((why : Code) × (code ≡ Of why) × IsNoSetup given why)
     ⊎ (((code ≡ Of (Setup (OfShape Reserves))) × ForSetup given (λ setup. setup.shape.reserves ≢ 0))
-    ⊎ ((why : OpenFault) × (code ≡ code_of_unbegun why) × ForSetup given (λ setup. RefusesFile (options_of setup) file why)))
+    ⊎ ((why : OpenFault) × (code ≡ code_of_fault why) × ForSetup given (λ setup. RefusesFile (options_of setup) file why)))
 
 -- by the number of the answer
 abbrev pub DoesOpen : {R F S : Type 0} → EnvySetup → List ℕ → MemoryPlace R F S → MemoryPlace R F S → ℕ → Type 0

@@ -5,7 +5,7 @@ ghost use Rattle.envy_begun.specs.Plans.{BeginsAs, BeginsOn, Plans};
 ghost use Rattle.envy_begun.specs.declared.file_contents.FileContents.{FileContents as OfHolding};
 ghost use Rattle.envy_begun.specs.declared.file_contents.FileContents.TheVariants.{Written};
 ghost use Rattle.envy_journal.specs.Head.{HasSixSizes};
-ghost use Rattle.envy_openings.specs.Files.{Opened, RefusesFile, RefusesOpen, code_of_unbegun, options_of};
+ghost use Rattle.envy_openings.specs.Files.{Opened, RefusesFile, RefusesOpen, code_of_fault, options_of};
 ghost use Rattle.envy_openings.specs.Opening.{Opens};
 ghost use Rattle.envy_places.specs.declared.code.PlaceCode.TheVariants.{Of};
 ghost use Rattle.envy_places.specs.declared.place.MemoryPlace.TheVariants.{File};
@@ -25,10 +25,10 @@ use envy_synced::Kept;
 use std::alloc::Global;
 
 // The answer where no memory began in a file.
-fn unbegun_code(unbegun: OpenFault) -> PlaceCode
-    ensures { result ≡ code_of_unbegun unbegun }
+fn fault_code(open_fault: OpenFault) -> PlaceCode
+    ensures { result ≡ code_of_fault open_fault }
 {
-    match unbegun {
+    match open_fault {
         OpenFault::Setup(fault) | OpenFault::Options(fault) => PlaceCode::Of(Code::Setup(fault)),
         OpenFault::NoJournal => PlaceCode::NoJournal,
         OpenFault::OtherVersion => PlaceCode::OtherVersion,
@@ -84,7 +84,7 @@ fn begun(
     let device = FilePort::found(port, file, bytewise);
     match begin(alloc, board, device, &options, file, setup, holding) {
         Ok(memory) => Ok(memory),
-        Err((unbegun, _device)) => Err(unbegun),
+        Err((open_fault, _device)) => Err(open_fault),
     }
 }
 
@@ -108,7 +108,7 @@ fn opened(
     }
     match begun(alloc, &setup, file, port, bytewise) {
         Ok(memory) => Ok(memory),
-        Err(unbegun) => Err(unbegun_code(unbegun)),
+        Err(open_fault) => Err(fault_code(open_fault)),
     }
 }
 

@@ -21,7 +21,7 @@ returns-in-Err-clause-failed g c = inl (c.in-Err.ensures.refused, refl)
 pub returns-in-Err-clause-left : goal.returns-in-Err-clause-left
 returns-in-Err-clause-left g c =
     leaves-still g.D.Device.may_leave g.D.Device.left_since g.D.Device.moment c.args.device c.args.bytes.now (λ x left. c.requires.durable x left ∙ sym c.requires.bytes) (g.met.D.Device.only_now c.args.device)
-    (StaysWritten c.in-Err.unbegun c.args.setup.shape c.args.bytes.now) (still-written (HasNoWords c.args.setup.shape c.args.bytes.now) c.args.setup.shape c.args.bytes.now c.in-Err.unbegun c.in-Err.ensures.refused)
+    (StaysWritten c.in-Err.open_fault c.args.setup.shape c.args.bytes.now) (still-written (HasNoWords c.args.setup.shape c.args.bytes.now) c.args.setup.shape c.args.bytes.now c.in-Err.open_fault c.in-Err.ensures.refused)
 
 pub opened_as_asked-requires-clause-opened : goal.opened_as_asked-requires-clause-opened
 opened_as_asked-requires-clause-opened g c =
@@ -33,10 +33,10 @@ returns-in-Err-opened_as_asked-clause-failed g c = inr c.in-Err-opened_as_asked.
 pub returns-in-Err-opened_as_asked-clause-left : goal.returns-in-Err-opened_as_asked-clause-left
 returns-in-Err-opened_as_asked-clause-left g c =
     let sh = (g.B.Board.state c.read_journal.new.board).shape in
-    let unbegun = c.in-Err-opened_as_asked.unbegun.0 in
-    let new = c.in-Err-opened_as_asked.unbegun.1 in
-    subst (λ (x : Shape). Leaves g.D.Device.left_since g.D.Device.moment new (StaysWritten unbegun x c.args.bytes.now)) (c.read_journal.ensures.shape ∙ c.requires.shape)
-    (leaves-as g.D.Device.left_since g.D.Device.moment new (OpensAlike sh c.args.bytes.now) (StaysWritten unbegun sh c.args.bytes.now) (alike-stays g.D.Device.seen g.D.Device.has_failed new sh c.args.bytes.now unbegun c.in-Err-opened_as_asked.ensures.failed) c.in-Err-opened_as_asked.ensures.left)
+    let open_fault = c.in-Err-opened_as_asked.open_fault.0 in
+    let new = c.in-Err-opened_as_asked.open_fault.1 in
+    subst (λ (x : Shape). Leaves g.D.Device.left_since g.D.Device.moment new (StaysWritten open_fault x c.args.bytes.now)) (c.read_journal.ensures.shape ∙ c.requires.shape)
+    (leaves-as g.D.Device.left_since g.D.Device.moment new (OpensAlike sh c.args.bytes.now) (StaysWritten open_fault sh c.args.bytes.now) (alike-stays g.D.Device.seen g.D.Device.has_failed new sh c.args.bytes.now open_fault c.in-Err-opened_as_asked.ensures.failed) c.in-Err-opened_as_asked.ensures.left)
 
 pub attach-requires : goal.attach-requires
 attach-requires g c on formatted =
@@ -65,10 +65,10 @@ returns-in-Err-attach-clause-failed g c =
 
 pub returns-in-Err-attach-clause-left : goal.returns-in-Err-attach-clause-left
 returns-in-Err-attach-clause-left g c =
-    let unbegun = c.unattached.result.0 in
-    subst (λ (x : Shape). Leaves g.D.Device.left_since g.D.Device.moment c.unattached.result.1 (StaysWritten unbegun x c.args.bytes.now)) (c.read_journal.ensures.shape ∙ c.requires.shape)
+    let open_fault = c.unattached.result.0 in
+    subst (λ (x : Shape). Leaves g.D.Device.left_since g.D.Device.moment c.unattached.result.1 (StaysWritten open_fault x c.args.bytes.now)) (c.read_journal.ensures.shape ∙ c.requires.shape)
     (fault-leaves g.D.Device.left_since g.D.Device.moment (g.B.Board.state c.read_journal.new.board).shape c.args.bytes.now c.closed-device.result.0 _ _ c.in-Ok-opened_as_asked.ensures.opened c.in-Ok-opened_as_asked.ensures.synced c.closed-device.ensures.leaves
-    g.D.Device.seen g.D.Device.has_failed c.args.setup c.unattached.result.1 unbegun c.in-Err-attach.fault c.closed-device.result.1 c.in-Err-attach.ensures c.unattached.ensures.says c.unattached.ensures.time c.unattached.ensures.left)
+    g.D.Device.seen g.D.Device.has_failed c.args.setup c.unattached.result.1 open_fault c.in-Err-attach.fault c.closed-device.result.1 c.in-Err-attach.ensures c.unattached.ensures.says c.unattached.ensures.time c.unattached.ensures.left)
 
 was : (g : Over) (c : goal.In-Ok-attach g) → Chart
 was g c =

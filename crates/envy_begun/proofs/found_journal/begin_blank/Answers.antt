@@ -14,7 +14,7 @@ use Rattle.envy_begun.proofs.found_journal.begin_blank.Goals as goal
 
 pub returns-in-Err-clause-failed : goal.returns-in-Err-clause-failed
 returns-in-Err-clause-failed g c =
-    subst (λ (sh : Shape). Declines g.D.Device.seen g.D.Device.has_failed (HasMisfit sh (operations c.args.bytes.now)) c.args.bytes.now c.args.device c.in-Err.unbegun c.args.device) c.requires.shape (inl (c.in-Err.ensures.refused, refl))
+    subst (λ (sh : Shape). Declines g.D.Device.seen g.D.Device.has_failed (HasMisfit sh (operations c.args.bytes.now)) c.args.bytes.now c.args.device c.in-Err.open_fault c.args.device) c.requires.shape (inl (c.in-Err.ensures.refused, refl))
 
 pub returns-in-Err-opened-clause-failed : goal.returns-in-Err-opened-clause-failed
 returns-in-Err-opened-clause-failed g c = inr c.in-Err-opened.ensures.failed
@@ -25,16 +25,16 @@ returns-clause-failed g c = all-declines g.D.Device.seen g.D.Device.has_failed (
 pub returns-in-Err-clause-left : goal.returns-in-Err-clause-left
 returns-in-Err-clause-left g c none =
     leaves-still g.D.Device.may_leave g.D.Device.left_since g.D.Device.moment c.args.device c.args.bytes.now (λ x left. c.requires.durable x left ∙ sym c.requires.bytes) (g.met.D.Device.only_now c.args.device)
-    (StaysNew c.in-Err.unbegun c.args.setup.shape c.args.bytes.now) (still-new (HasMisfit (g.B.Board.state c.args.board).shape (operations c.args.bytes.now)) c.args.setup.shape c.args.bytes.now c.in-Err.unbegun c.in-Err.ensures.refused)
+    (StaysNew c.in-Err.open_fault c.args.setup.shape c.args.bytes.now) (still-new (HasMisfit (g.B.Board.state c.args.board).shape (operations c.args.bytes.now)) c.args.setup.shape c.args.bytes.now c.in-Err.open_fault c.in-Err.ensures.refused)
 
 pub returns-in-Err-opened-clause-left : goal.returns-in-Err-opened-clause-left
 returns-in-Err-opened-clause-left g c none =
     let sh = c.args.setup.shape in
-    let unbegun = c.in-Err-opened.unbegun.0 in
-    let new = c.in-Err-opened.unbegun.1 in
+    let open_fault = c.in-Err-opened.open_fault.0 in
+    let new = c.in-Err-opened.open_fault.1 in
     let same = c.replayed.ensures.shape ∙ c.requires.shape in
     let left = subst (λ (p : List Operation). Leaves g.D.Device.left_since g.D.Device.moment new (StandsFor sh p)) none (subst (λ (x : Shape). Leaves g.D.Device.left_since g.D.Device.moment new (StandsFor x (operations c.args.bytes.now))) same c.in-Err-opened.ensures.left) in
-    leaves-as g.D.Device.left_since g.D.Device.moment new (StandsFor sh []) (StaysNew unbegun sh c.args.bytes.now) (stands-stays g.D.Device.seen g.D.Device.has_failed new sh c.args.bytes.now unbegun c.in-Err-opened.ensures.failed) left
+    leaves-as g.D.Device.left_since g.D.Device.moment new (StandsFor sh []) (StaysNew open_fault sh c.args.bytes.now) (stands-stays g.D.Device.seen g.D.Device.has_failed new sh c.args.bytes.now open_fault c.in-Err-opened.ensures.failed) left
 
 pub returns-clause-left : goal.returns-clause-left
 returns-clause-left g c none =

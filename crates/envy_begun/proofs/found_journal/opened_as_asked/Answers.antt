@@ -15,7 +15,7 @@ pub returns-in-Err-clause-left : goal.returns-in-Err-clause-left
 returns-in-Err-clause-left g c =
     let sh = (g.B.Board.state c.args.board).shape in
     let file = c.args.bytes.now in
-    leaves-as g.D.Device.left_since g.D.Device.moment c.in-Err.unbegun.1 (StandsFor sh (operations file)) (OpensAlike sh file) (stands-alike sh file) c.in-Err.ensures.left
+    leaves-as g.D.Device.left_since g.D.Device.moment c.in-Err.open_fault.1 (StandsFor sh (operations file)) (OpensAlike sh file) (stands-alike sh file) c.in-Err.ensures.left
 
 pub returns-in-Ok-clause-same : goal.returns-in-Ok-clause-same
 returns-in-Ok-clause-same g c not =

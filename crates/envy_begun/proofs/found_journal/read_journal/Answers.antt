@@ -12,4 +12,4 @@ returns-in-Ok-clause-words g c =
 
 pub returns-in-Err-clause-refused : goal.returns-in-Err-clause-refused
 returns-in-Err-clause-refused g c =
-    audited-refrains (g.B.Board.state c.args.board.now).shape c.args.bytes.now (g.B.Board.state c.replayed.new.board) c.in_ok-end.ensures.opened c.args.setup.now c.requires.shape (g.met.B.Board.lawful c.replayed.new.board) c.requires.setup c.in-Err.unbegun c.in-Err.ensures.refused
+    audited-refrains (g.B.Board.state c.args.board.now).shape c.args.bytes.now (g.B.Board.state c.replayed.new.board) c.in_ok-end.ensures.opened c.args.setup.now c.requires.shape (g.met.B.Board.lawful c.replayed.new.board) c.requires.setup c.in-Err.open_fault c.in-Err.ensures.refused

@@ -39,13 +39,13 @@ returns-in-Written-clause-failed g c =
 
 pub returns-in-Unmade-clause-left : goal.returns-in-Unmade-clause-left
 returns-in-Unmade-clause-left g c =
-    all-stays g.D.Device.left_since g.D.Device.moment c.args.setup.shape c.args.bytes.now c.args.holding Unmade c.begin_new.result (λ unbegun file. IsUnmade file ⊎ StaysNew unbegun c.args.setup.shape [] file) c.in-Unmade.is (λ unbegun file stays. stays) c.begin_new.ensures.left
+    all-stays g.D.Device.left_since g.D.Device.moment c.args.setup.shape c.args.bytes.now c.args.holding Unmade c.begin_new.result (λ open_fault file. IsUnmade file ⊎ StaysNew open_fault c.args.setup.shape [] file) c.in-Unmade.is (λ open_fault file stays. stays) c.begin_new.ensures.left
 
 pub returns-in-Blank-clause-left : goal.returns-in-Blank-clause-left
 returns-in-Blank-clause-left g c =
     let found = subst (λ (h : FileContents). Plans h c.args.options.now c.args.bytes.now c.args.setup) c.in-Blank.is c.requires.plans in
-    all-stays g.D.Device.left_since g.D.Device.moment c.args.setup.shape c.args.bytes.now c.args.holding Blank c.begin_blank.result (λ unbegun. StaysNew unbegun c.args.setup.shape c.args.bytes.now) c.in-Blank.is (λ unbegun file stays. stays) (c.begin_blank.ensures.left found.1)
+    all-stays g.D.Device.left_since g.D.Device.moment c.args.setup.shape c.args.bytes.now c.args.holding Blank c.begin_blank.result (λ open_fault. StaysNew open_fault c.args.setup.shape c.args.bytes.now) c.in-Blank.is (λ open_fault file stays. stays) (c.begin_blank.ensures.left found.1)
 
 pub returns-in-Written-clause-left : goal.returns-in-Written-clause-left
 returns-in-Written-clause-left g c =
-    all-stays g.D.Device.left_since g.D.Device.moment c.args.setup.shape c.args.bytes.now c.args.holding Written c.begin_again.result (λ unbegun. StaysWritten unbegun c.args.setup.shape c.args.bytes.now) c.in-Written.is (λ unbegun file stays. stays) c.begin_again.ensures.left
+    all-stays g.D.Device.left_since g.D.Device.moment c.args.setup.shape c.args.bytes.now c.args.holding Written c.begin_again.result (λ open_fault. StaysWritten open_fault c.args.setup.shape c.args.bytes.now) c.in-Written.is (λ open_fault file stays. stays) c.begin_again.ensures.left

@@ -15,10 +15,10 @@ returns-in-Err-clause-left g c =
     let made = (g.B.Board.state c.args.board).shape in
     let left = g.D.Device.left_since in
     let moment = g.D.Device.moment in
-    let unbegun = c.unopened.result.0 in
+    let open_fault = c.unopened.result.0 in
     let new = c.unopened.result.1 in
-    let stopped = unopened-stopped g.D.Device.seen g.D.Device.has_failed c.in-Err.device new unbegun c.in-Err.error c.unopened.ensures.says c.in-Err.ensures.failed in
-    leaves-as left moment new (IsNewOrUnmade made) (λ file. IsUnmade file ⊎ StaysNew unbegun c.args.setup.shape [] file) (new-stays g.D.Device.seen g.D.Device.has_failed new made c.args.setup.shape c.requires.shape unbegun stopped)
+    let stopped = unopened-stopped g.D.Device.seen g.D.Device.has_failed c.in-Err.device new open_fault c.in-Err.error c.unopened.ensures.says c.in-Err.ensures.failed in
+    leaves-as left moment new (IsNewOrUnmade made) (λ file. IsUnmade file ⊎ StaysNew open_fault c.args.setup.shape [] file) (new-stays g.D.Device.seen g.D.Device.has_failed new made c.args.setup.shape c.requires.shape open_fault stopped)
     (leaves-on left moment c.in-Err.device new (IsNewOrUnmade made) c.unopened.ensures.time c.unopened.ensures.left (leaves-only left moment c.args.device c.in-Err.device (IsNewOrUnmade made) c.in-Err.ensures.any_moment_err))
 
 pub returns-clause-left : goal.returns-clause-left

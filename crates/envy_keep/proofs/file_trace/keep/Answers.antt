@@ -6,16 +6,16 @@ use Rattle.envy_keep.proofs.file_trace.keep.Goals as goal
 
 pub returns-in-Err-clause-keeps : goal.returns-in-Err-clause-keeps
 returns-in-Err-clause-keeps g c =
-    inr (unserved-as g.D.Device.seen g.D.Device.has_failed g.D.Device.left_since g.D.Device.moment c.args.options.now c.args.bytes.now c.args.device c.args.device c.unserved.result.device c.in-Err.unbegun
+    inr (unserved-as g.D.Device.seen g.D.Device.has_failed g.D.Device.left_since g.D.Device.moment c.args.options.now c.args.bytes.now c.args.device c.args.device c.unserved.result.device c.in-Err.fault
     _ (g.S.Source.feed c.args.source.now) (g.K.Sink.drain c.args.sink.now) c.unserved.ensures.says c.unserved.ensures.device
-    (refused-causes g.D.Device.seen g.D.Device.has_failed c.args.options.now c.args.bytes.now c.args.device c.args.device c.in-Err.unbegun c.in-Err.ensures.refused refl)
-    (sooner c.args.options.now c.args.bytes.now c.in-Err.unbegun c.in-Err.ensures.refused)
+    (refused-causes g.D.Device.seen g.D.Device.has_failed c.args.options.now c.args.bytes.now c.args.device c.args.device c.in-Err.fault c.in-Err.ensures.refused refl)
+    (sooner c.args.options.now c.args.bytes.now c.in-Err.fault c.in-Err.ensures.refused)
     (inl (as-it-was g.D.Device.seen g.D.Device.may_leave g.D.Device.left_since g.D.Device.moment c.args.device c.args.bytes.now c.requires.bytes c.requires.durable (g.met.D.Device.only_now c.args.device))))
 
 pub returns-in-Err-clause-stopped : goal.returns-in-Err-clause-stopped
 returns-in-Err-clause-stopped g c =
-    unserved-stopped g.D.Device.seen g.D.Device.has_failed c.args.options.now c.args.bytes.now c.args.device c.args.device c.unserved.result.device c.in-Err.unbegun _ _ _ _ _ c.unserved.result.held c.unserved.ensures.says c.unserved.ensures.device c.unserved.ensures.held
-    (refused-causes g.D.Device.seen g.D.Device.has_failed c.args.options.now c.args.bytes.now c.args.device c.args.device c.in-Err.unbegun c.in-Err.ensures.refused refl)
+    unserved-stopped g.D.Device.seen g.D.Device.has_failed c.args.options.now c.args.bytes.now c.args.device c.args.device c.unserved.result.device c.in-Err.fault _ _ _ _ _ c.unserved.result.held c.unserved.ensures.says c.unserved.ensures.device c.unserved.ensures.held
+    (refused-causes g.D.Device.seen g.D.Device.has_failed c.args.options.now c.args.bytes.now c.args.device c.args.device c.in-Err.fault c.in-Err.ensures.refused refl)
 
 pub returns-in_default-clause-keeps : goal.returns-in_default-clause-keeps
 returns-in_default-clause-keeps g c =

@@ -6,14 +6,14 @@ use Rattle.envy_keep.proofs.file_trace.serve_on.Goals as goal
 
 pub returns-in-Err-clause-keeps : goal.returns-in-Err-clause-keeps
 returns-in-Err-clause-keeps g c =
-    inr (unserved-as g.D.Device.seen g.D.Device.has_failed g.D.Device.left_since g.D.Device.moment c.args.options.now c.args.bytes.now c.args.device c.in-Err.device c.unserved.result.device c.in-Err.unbegun
+    inr (unserved-as g.D.Device.seen g.D.Device.has_failed g.D.Device.left_since g.D.Device.moment c.args.options.now c.args.bytes.now c.args.device c.in-Err.device c.unserved.result.device c.in-Err.fault
     _ (g.S.Source.feed c.args.source.now) (g.K.Sink.drain c.args.sink.now) c.unserved.ensures.says c.unserved.ensures.device c.in-Err.ensures.failed
-    (later c.args.options.now c.args.bytes.now c.in-Err.unbegun (c.args.setup, c.args.holding, c.requires.plans, c.requires.checks))
+    (later c.args.options.now c.args.bytes.now c.in-Err.fault (c.args.setup, c.args.holding, c.requires.plans, c.requires.checks))
     (inr (c.args.setup, c.args.holding, c.requires.plans, c.in-Err.ensures.left)))
 
 pub returns-in-Err-clause-stopped : goal.returns-in-Err-clause-stopped
 returns-in-Err-clause-stopped g c =
-    unserved-stopped g.D.Device.seen g.D.Device.has_failed c.args.options.now c.args.bytes.now c.args.device c.in-Err.device c.unserved.result.device c.in-Err.unbegun _ _ _ _ _ c.unserved.result.held c.unserved.ensures.says c.unserved.ensures.device c.unserved.ensures.held c.in-Err.ensures.failed
+    unserved-stopped g.D.Device.seen g.D.Device.has_failed c.args.options.now c.args.bytes.now c.args.device c.in-Err.device c.unserved.result.device c.in-Err.fault _ _ _ _ _ c.unserved.result.held c.unserved.ensures.says c.unserved.ensures.device c.unserved.ensures.held c.in-Err.ensures.failed
 
 pub serve_kept-requires : goal.serve_kept-requires
 serve_kept-requires g c =

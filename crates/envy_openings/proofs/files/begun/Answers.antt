@@ -27,4 +27,4 @@ returns-in-Ok-begin-clause-begun c =
 pub returns-in-Err-clause-refused : goal.returns-in-Err-clause-refused
 returns-in-Err-clause-refused c =
     let plans = subst (λ (o : KeepOptions). Plans c.in_ok-setup.holding o c.args.file.now c.in_ok-setup.setup) c.options-options.ensures c.in_ok-setup.ensures.plans in
-    port-caused c.args.setup.now _ c.args.file.now _ _ c.in-Err.unbegun c.options-options.ensures c.in-Err.ensures.failed (c.in_ok-setup.setup, c.in_ok-setup.holding, plans, c.in_ok-setup.ensures.checks)
+    port-caused c.args.setup.now _ c.args.file.now _ _ c.in-Err.open_fault c.options-options.ensures c.in-Err.ensures.failed (c.in_ok-setup.setup, c.in_ok-setup.holding, plans, c.in_ok-setup.ensures.checks)
