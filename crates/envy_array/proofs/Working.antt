@@ -20,7 +20,7 @@ was_on k a b w on = elim (on_or_off a.on) [ inl y ↦ y | inr n ↦ no_both b.on
 pub Works-refl : (s : Sheet) → Works 0 s s
 Works-refl s = record { long = refl; kept = refl; room = refl; fixed = refl; notes = refl; cuts = omega arith; bads = omega arith; dark = λ e. e; cut = λ t f. no_both s.on t f; still = λ _. refl; few = λ _. omega arith; seen = λ _ p h. h; beside = inl refl; kept_beside = refl }
 
-rose-low : (a b c : ℕ) → Rose a b → b ≤ c → Rose a c
+pub rose-low : (a b c : ℕ) → Rose a b → b ≤ c → Rose a c
 rose-low a b c r le lt = let h = r lt in omega arith
 
 pub Works-trans : (j k : ℕ) (a b c : Sheet) → Works j a b → Works k b c → Works (j + k) a c
@@ -90,6 +90,11 @@ on_from s h t = elim (on_or_off s.on) [ inl y ↦ y | inr n ↦ no_both s.starte
 
 pub OnPage-room : (p q : ℕ) (a b : Sheet) → OnPage p a b → IsTrue b.on → q ≡ p → length a.pages + 1 ≤ a.room → IsTrue (has b.pages q) ⊎ (length b.pages < b.room)
 OnPage-room p q a b o on e room = elim (o.put on) [ inl h ↦ inl (subst (λ x. IsTrue (has b.pages x)) (sym e) h) | inr same ↦ inr (omega (arith, ap length same, o.works.room)) ]
+
+-- the page was put, or there is room for it
+pub OnPage-still : (p q : ℕ) (a b : Sheet) → OnPage p a b → IsTrue b.on → q ≡ p → IsTrue (has a.pages p) ⊎ (length a.pages < a.room) → IsTrue (has b.pages q) ⊎ (length b.pages < b.room)
+OnPage-still p q a b o on e (inl is) = inl (subst (λ x. IsTrue (has b.pages x)) (sym e) (o.works.seen on p is))
+OnPage-still p q a b o on e (inr room) = OnPage-room p q a b o on e (omega (arith, room))
 
 -- flash work, by the puts that it is worth
 

@@ -1,5 +1,5 @@
 -- What a memory of words with one transaction is, and what each of its calls does.
-use Rattle.std.specs.Prelude.{◌≡◌, ◌⊎◌, ℕ, ◌+◌, ◌-◌, ◌*◌, ◌/◌, ◌^◌, ◌<◌, ◌≤◌, ◌==◌, Bool, false, IsTrue, List, [], length, slice_set, slice_index, Result, Ok, Err}
+use Rattle.std.specs.Prelude.{◌≡◌, ◌⊎◌, ℕ, ◌+◌, ◌-◌, ◌*◌, ◌/◌, ◌^◌, ◌<◌, ◌≤◌, ◌==◌, Bool, false, IsTrue, List, [], ◌++◌, length, take, drop, slice_set, slice_index, Result, Ok, Err}
 use Rattle.std.specs.List.{list_any}
 use Rattle.envy_base.specs.Counting.{Rose}
 use Rattle.envy_base.specs.State.{Notes}
@@ -82,10 +82,28 @@ abbrev pub Loads : Sheet → ℕ → Result ℕ Off → Sheet → Type 0
 Loads old a (Ok v) new = IsTrue new.on × (v ≡ slice_index old.words a) × (new.words ≡ old.words) × (new.pages ≡ old.pages)
 Loads old a (Err off) new = new.on ≡ false
 
+-- so many of the words, from address a on
+abbrev pub run_at : List ℕ → ℕ → ℕ → List ℕ
+run_at words a n = take n (drop a words)
+
+abbrev pub LoadsRun : Sheet → ℕ → List ℕ → Result Unit Off → Sheet → Type 0
+LoadsRun old a run (Ok done) new = (IsTrue old.on → IsTrue new.on) × (run ≡ run_at old.words a (length run)) × (new.words ≡ old.words) × (new.pages ≡ old.pages)
+LoadsRun old a run (Err off) new = new.on ≡ false
+
 abbrev pub Puts : Sheet → ℕ → ℕ → Result Unit Trouble → Sheet → Type 0
 Puts old a w (Ok done) new = IsTrue new.on × (new.words ≡ slice_set old.words a w) × IsTrue (has new.pages (a / PAGE_WORDS))
 Puts old a w (Err TroubleOff) new = new.on ≡ false
 Puts old a w (Err Bad) new = IsTrue new.on × (new.words ≡ old.words) × (new.pages ≡ old.pages) × Rose old.bads new.bads
+
+-- the first n words of a list, in place of those from address a on
+abbrev pub pasted : ℕ → List ℕ → ℕ → List ℕ → List ℕ
+pasted a list n words = take a words ++ take n list ++ drop (a + n) words
+
+-- After `Bad` the first k are put.
+abbrev pub PutsRun : Sheet → ℕ → List ℕ → Result Unit Trouble → Sheet → Type 0
+PutsRun old a list (Ok done) new = IsTrue new.on × (new.words ≡ pasted a list (length list) old.words)
+PutsRun old a list (Err TroubleOff) new = new.on ≡ false
+PutsRun old a list (Err Bad) new = IsTrue new.on × Rose old.bads new.bads × ((k : ℕ) × (k ≤ length list) × (new.words ≡ pasted a list k old.words))
 
 -- What start, finish and undo keep at every exit. Words beside stay if all of them are kept.
 pub record Keeps (old new : Sheet) : Type 0 where

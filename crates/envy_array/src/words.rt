@@ -1,4 +1,4 @@
-ghost use Rattle.std.specs.Prelude.{◌≡◌, ◌⊎◌, ◌/◌, ◌<◌, ◌^◌, IsTrue, false, length};
+ghost use Rattle.std.specs.Prelude.{◌≡◌, ◌⊎◌, ◌/◌, ◌%◌, ◌+◌, ◌<◌, ◌≤◌, ◌^◌, IsTrue, false, length};
 ghost use Rattle.envy_array.specs.Words.{
   Sheet,
   IsSheet,
@@ -7,7 +7,9 @@ ghost use Rattle.envy_array.specs.Words.{
   OnPage,
   Keeps,
   Loads,
+  LoadsRun,
   Puts,
+  PutsRun,
   Starts,
   Finishes,
   Undoes,
@@ -37,6 +39,22 @@ pub trait Words {
         ensures spends { Spends 0 (sheet self.old) (sheet self.new) }
         ensures answer { Loads (sheet self.old) a result (sheet self.new) };
 
+    /// The words from address `a` on, as many as there is room for in `into`. After an error nothing is said of `into`
+    /// but its length.
+    fn load_run(&mut self, a: u32, into: &mut [u64]) -> Result<(), Off>
+        requires { a + length into.old ≤ length (sheet self.old).words }
+        ensures works { Works 0 (sheet self.old) (sheet self.new) }
+        ensures spends { Spends 0 (sheet self.old) (sheet self.new) }
+        ensures long { length into.new ≡ length into.old }
+        ensures answer { LoadsRun (sheet self.old) a into.new result (sheet self.new) }
+    {
+        for i in 0..into.len() {
+            let word = self.load(a + i as u32)?;
+            into[i] = word;
+        }
+        Ok(())
+    }
+
     /// Opens a transaction. It counts as a put, so a bound on work bounds the transactions too.
     fn start(&mut self) -> Result<(), Off>
         requires { (sheet self.old).started ≡ false }
@@ -53,6 +71,24 @@ pub trait Words {
         ensures works { OnPage (a / PAGE_WORDS) (sheet self.old) (sheet self.new) }
         ensures spends { Spends 1 (sheet self.old) (sheet self.new) }
         ensures answer { Puts (sheet self.old) a w result (sheet self.new) };
+
+    /// Puts the words of `list` at address `a` and behind it, within one page. After `Bad` those before the word at which it
+    /// came are put.
+    fn put_run(&mut self, a: u32, list: &[u64]) -> Result<(), Trouble>
+        requires within { a + length list.now ≤ length (sheet self.old).words }
+        requires page { a % PAGE_WORDS + length list.now ≤ PAGE_WORDS }
+        requires begun { IsTrue (sheet self.old).started }
+        requires room { IsTrue (has (sheet self.old).pages (a / PAGE_WORDS))
+            ⊎ (length (sheet self.old).pages < (sheet self.old).room) }
+        ensures works { OnPage (a / PAGE_WORDS) (sheet self.old) (sheet self.new) }
+        ensures spends { Spends (length list.now) (sheet self.old) (sheet self.new) }
+        ensures answer { PutsRun (sheet self.old) a list.now result (sheet self.new) }
+    {
+        for i in 0..list.len() {
+            self.put(a + i as u32, list[i])?;
+        }
+        Ok(())
+    }
 
     /// Keeps what the open transaction put, and closes it. After `Off` it stands or is undone.
     fn finish(&mut self) -> Result<(), Off>

@@ -6,7 +6,8 @@ use Rattle.std.proofs.lemmas.List.{get_or-set_same, get_or-set_other, length-set
 use Rattle.std.proofs.lemmas.List.Edits.{length-insert, length-remove, get_or-insert_at, get_or-insert_below, get_or-insert_above, get_or-remove_below, get_or-remove_above}
 use Rattle.envy_heap.specs.Pieces.{head, at}
 use Rattle.envy_btree.specs.Tree.{Shows, window}
-use Rattle.envy_btree.specs.Nodes.{OnlyPiece, pasted}
+use Rattle.envy_array.specs.Words.{pasted}
+use Rattle.envy_btree.specs.Nodes.{OnlyPiece}
 use Rattle.envy_btree.specs.Spots.{Opens, Closes, keys_at, slots_at}
 use Rattle.envy_btree.proofs.Writing.{pasted-long, pasted-before, pasted-in, pasted-after, window-is}
 

@@ -1,6 +1,10 @@
 -- The search among words that are halved.
-use Rattle.std.proofs.Common.{◌≡◌, ℕ, ◌+◌, ◌-◌, ◌<◌, ◌≤◌, List, get_or, refl, ◌∙◌, ap, sym, arith}
-use Rattle.envy_btree.specs.Looking.{IsPlace}
+use Rattle.std.proofs.Common.{◌≡◌, ℕ, ◌+◌, ◌-◌, ◌<◌, ◌≤◌, List, length, drop, get_or, refl, ◌∙◌, ap, ap₂, sym, arith}
+use Rattle.std.proofs.lemmas.List.{get_or-drop, get_or-take}
+use Rattle.envy_array.specs.Words.{run_at}
+use Rattle.envy_btree.specs.Looking.{IsPlace, pair_at}
+use Rattle.envy_btree.specs.Spots.{Climbs}
+use Rattle.envy_heap.specs.Pieces.{at}
 
 -- the place lies from index to end
 pub record Narrow (ws : List ℕ) (a count key low top index new_low new_top end : ℕ) : Type 0 where
@@ -63,3 +67,40 @@ narrow-done ws a count key low top index new_low new_top end n done =
       last = λ e. n.last (same ∙ e);
       ceiling = λ lt. ap (λ j. get_or ws (a + j) 0) (sym same) ∙ n.ceiling (omega arith);
     }
+
+-- a word of a run that was read
+pub read-at : (ws run : List ℕ) (a n i : ℕ) → run ≡ run_at ws a n → i < n → get_or run i 0 ≡ get_or ws (a + i) 0
+read-at ws run a n i is lt = ap (λ (xs : List ℕ). get_or xs i 0) is ∙ get_or-take n (drop a ws) i 0 lt ∙ get_or-drop a ws i 0
+
+zero-first : (i : ℕ) → 0 + i ≡ i
+zero-first i = omega arith
+
+-- the place among words that were read is that among the words
+pub place-read : (ws run : List ℕ) (a count key low top index new_low new_top : ℕ) → length run ≡ count → run ≡ run_at ws a (length run) → IsPlace run 0 (length run) key low top index new_low new_top → IsPlace ws a count key low top index new_low new_top
+place-read ws run a count key low top index new_low new_top long is p = record {
+  within = omega (arith, long, p.within);
+  above = p.above;
+  below = p.below;
+  first = p.first;
+  bottom = λ i e. p.bottom i e ∙ ap (λ k. get_or run k 0) (zero-first i) ∙ read-at ws run a (length run) i is (omega (arith, p.within, e));
+  last = λ e. p.last (omega (arith, long, e));
+  ceiling = λ lt. sym (read-at ws run a (length run) index is (omega (arith, long, lt))) ∙ sym (ap (λ k. get_or run k 0) (zero-first index)) ∙ p.ceiling (omega (arith, long, lt));
+}
+
+-- words that rise, as they were read
+pub climbs-read : (ws run : List ℕ) (a n : ℕ) → length run ≡ n → run ≡ run_at ws a (length run) → Climbs ws a n → Climbs run 0 (length run)
+climbs-read ws run a n long is c = record {
+  rise = λ i j le lt.
+    let front = ap (λ k. get_or run k 0) (zero-first i) ∙ read-at ws run a (length run) i is (omega (arith, le, lt)) in
+    let rear = ap (λ k. get_or run k 0) (zero-first j) ∙ read-at ws run a (length run) j is lt in
+    let rise = c.rise i j le (omega (arith, long, lt)) in
+    omega (arith, front, rear, rise);
+}
+
+-- of so many words
+pub run-as : (ws now run : List ℕ) (a n : ℕ) → now ≡ ws → length run ≡ n → run ≡ run_at now a (length run) → run ≡ run_at ws a n
+run-as ws now run a n same long is = is ∙ ap₂ (λ xs k. run_at xs a k) same long
+
+-- pair i of a leaf whose keys and values were read
+pub pair-of : (ws keys values : List ℕ) (p n i : ℕ) → keys ≡ run_at ws (at p 1) n → values ≡ run_at ws (at p 32) n → i < n → (get_or keys i 0, get_or values i 0) ≡ pair_at ws p i
+pair-of ws keys values p n i front back lt = ap₂ (λ k v. (k, v)) (read-at ws keys (at p 1) n i front lt) (read-at ws values (at p 32) n i back lt)

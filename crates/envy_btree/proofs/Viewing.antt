@@ -1,7 +1,7 @@
 -- What looks leave, and how their failures are handed on.
 use Rattle.std.proofs.Common.{◌≡◌, ℕ, Bool, true, false, IsTrue, List, Result, Ok, Err, IsErrAnd, refl, sym, subst, ◌∙◌}
 use Rattle.envy_base.specs.declared.board.Off.{Off}
-use Rattle.envy_array.specs.Words.{Sheet, IsSheet, Works, Spends, Loads}
+use Rattle.envy_array.specs.Words.{Sheet, IsSheet, Works, Spends, Loads, LoadsRun}
 use Rattle.envy_array.proofs.Working.{Works-refl, Works-trans, Spends-refl, Spends-trans, was_on}
 use Rattle.envy_btree.specs.declared.fault.LookFault.{LookFault}
 use Rattle.envy_btree.specs.declared.fault.LookFault.TheVariants.{Off as LookOff, Broken}
@@ -25,6 +25,10 @@ Looks-trans a b c v w = record {
 pub load-looks : (i : ℕ) (a b : Sheet) (r : Result ℕ Off) → Works 0 a b → Spends 0 a b → Loads a i r b → Looks a b
 load-looks i a b (Ok v) w s l = record { works = w; spends = s; same = λ on. (l.2, l.3) }
 load-looks i a b (Err e) w s l = record { works = w; spends = s; same = λ on. absurd (no_both b.on on l) }
+
+pub run-looks : (i : ℕ) (run : List ℕ) (a b : Sheet) (r : Result Unit Off) → Works 0 a b → Spends 0 a b → LoadsRun a i run r b → Looks a b
+run-looks i run a b (Ok v) w s l = record { works = w; spends = s; same = λ on. (l.2, l.3) }
+run-looks i run a b (Err e) w s l = record { works = w; spends = s; same = λ on. absurd (no_both b.on on l) }
 
 -- what a `?` hands on after power failed
 

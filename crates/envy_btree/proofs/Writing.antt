@@ -3,7 +3,8 @@ use Rattle.std.proofs.Common.{◌≡◌, ℕ, ◌+◌, ◌-◌, ◌*◌, ◌<◌
 use Rattle.std.proofs.lemmas.List.{get_or-set_same, get_or-set_other, length-set, get_or-take, get_or-drop, length-take, length-drop, length-append, get_or_append_left, get_or-append_right, ext_get_or}
 use Rattle.envy_heap.specs.Pieces.{head, at}
 use Rattle.envy_btree.specs.Tree.{Shows, window}
-use Rattle.envy_btree.specs.Nodes.{OnlyPiece, pasted}
+use Rattle.envy_array.specs.Words.{pasted}
+use Rattle.envy_btree.specs.Nodes.{OnlyPiece}
 
 front-long : (ws : List ℕ) (a : ℕ) → a ≤ length ws → length (take a ws) ≡ a
 front-long ws a h = omega (arith, length-take a ws)

@@ -23,10 +23,6 @@ pub record OnlyPiece (p : ℕ) (old new : List ℕ) : Type 0 where
   pub before : (a : ℕ) → a < head p → slice_index new a ≡ slice_index old a
   pub after : (a : ℕ) → head p + 64 ≤ a → slice_index new a ≡ slice_index old a
 
--- n words of the list stand from a on
-abbrev pub pasted : ℕ → List ℕ → ℕ → List ℕ → List ℕ
-pasted a list n ws = take a ws ++ take n list ++ drop (a + n) ws
-
 -- a leaf's keys and values once the key has this value
 pub record IsSet (key value : ℕ) (es : List (ℕ × ℕ)) (keys slots : List ℕ) : Type 0 where
   pub front : keys ≡ keys_of (with_pair key value es)

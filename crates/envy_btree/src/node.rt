@@ -1,9 +1,9 @@
 ghost use Rattle.std.specs.Prelude.{◌≡◌, ℕ, List, ◌<◌, ◌≤◌, ◌+◌, ◌↔◌, length, IfOk, OnOk, MatchResult, IsTrue, ◌%◌, ◌/◌, false, slice_index, slice_set};
 ghost use Rattle.arrayvec.specs.ArrayVec.{array_vec_len};
-ghost use Rattle.envy_array.specs.Words.{Spends, Works, OnPage, Fails};
+ghost use Rattle.envy_array.specs.Words.{Spends, Works, OnPage, Fails, pasted};
 ghost use Rattle.envy_heap.specs.Pieces.{head, at, one};
 ghost use Rattle.envy_btree.specs.Tree.{window, Shows, Rising, keys_of, values_of};
-ghost use Rattle.envy_btree.specs.Nodes.{IsRead, pasted, OnlyPiece, Ranks, IsSet, IsDropped};
+ghost use Rattle.envy_btree.specs.Nodes.{IsRead, OnlyPiece, Ranks, IsSet, IsDropped};
 
 use arrayvec::ArrayVec;
 use envy_array::Words;
@@ -55,6 +55,9 @@ impl Node {
     }
 }
 
+// The most words of a list.
+const MOST_LISTED: usize = 64;
+
 /// The `n` words from `a` on.
 pub(crate) fn read_list<W: Words>(words: &mut W, a: u32, n: u32) -> Result<ArrayVec<u64, 64>, Off>
     requires few { n ≤ 64 }
@@ -66,11 +69,13 @@ pub(crate) fn read_list<W: Words>(words: &mut W, a: u32, n: u32) -> Result<Array
     ensures power { MatchResult result (λ _. IsTrue (W.sheet words.old).on → IsTrue (W.sheet words.new).on)
         (λ _. (W.sheet words.new).on ≡ false) }
 {
+    let mut read = [0; MOST_LISTED];
+    let run = &mut read[..n as usize];
+    words.load_run(a, run)?;
     let mut list = ArrayVec::new();
-    for i in 0..n {
-        let word = words.load(a + i)?;
-        list.push(word);
-    }
+    let Ok(()) = list.try_extend_from_slice(run) else {
+        unreachable!();
+    };
     Ok(list)
 }
 
@@ -106,11 +111,7 @@ pub(crate) fn write_list<W: Words>(words: &mut W, a: u32, list: &[u64]) -> Resul
     ensures list { OnOk result
         ((W.sheet words.new).words ≡ pasted a list.now (length list.now) (W.sheet words.old).words) }
 {
-    for i in 0..list.len() {
-        let word = list[i];
-        words.put(a + i as u32, word)?;
-    }
-    Ok(())
+    words.put_run(a, list)
 }
 
 /// Writes a node into a piece.

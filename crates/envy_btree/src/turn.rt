@@ -17,7 +17,7 @@ ghost use Rattle.envy_btree.specs.Looking.{
 use crate::fault::LookFault;
 use crate::leaf::leaf_for;
 use crate::part::{Part, part_of};
-use crate::sizes::{KEYS, PIECE_WORDS, SLOTS};
+use crate::sizes::{KEYS, MOST_KEYS, PIECE_WORDS, SLOTS};
 use crate::way::Way;
 use envy_array::Words;
 use envy_base::Off;
@@ -100,11 +100,13 @@ fn write_pairs<W: Words>(
     ensures rest { OnOk result (drop (filled + count) out.new ≡ drop (filled + count) out.old) }
 {
     let node = PIECE_WORDS + PIECE_WORDS * piece;
+    let mut keys = [0; MOST_KEYS];
+    let mut values = [0; MOST_KEYS];
+    words.load_run(node + KEYS, &mut keys)?;
+    words.load_run(node + SLOTS, &mut values)?;
     for j in 0..count {
-        let i = place_at(way, place, j);
-        let key = words.load(node + KEYS + i)?;
-        let value = words.load(node + SLOTS + i)?;
-        out[filled + j as usize] = (key, value);
+        let i = place_at(way, place, j) as usize;
+        out[filled + j as usize] = (keys[i], values[i]);
     }
     Ok(())
 }

@@ -173,6 +173,14 @@ impl<B: Board> Words for OneTx<B> {
         }
     }
 
+    fn load_run(&mut self, a: u32, into: &mut [u64]) -> Result<(), Off> {
+        match self.memory.load_run(a, into) {
+            Ok(()) => Ok(()),
+            Err(LoadFault::Off) => Err(Off),
+            Err(LoadFault::Range) => unreachable!(),
+        }
+    }
+
     fn start(&mut self) -> Result<(), Off> {
         self.memory.invariant_holds();
         let begun = self.memory.begin();
@@ -186,6 +194,12 @@ impl<B: Board> Words for OneTx<B> {
 
     fn put(&mut self, a: u32, w: u64) -> Result<(), Trouble> {
         trouble(self.memory.put(0, a, w))
+    }
+
+    fn put_run(&mut self, a: u32, list: &[u64]) -> Result<(), Trouble> {
+        let _left = self.memory.left();
+        let (_, answer) = self.memory.put_run(0, a, list);
+        trouble(answer)
     }
 
     fn finish(&mut self) -> Result<(), Off> {

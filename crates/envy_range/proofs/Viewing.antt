@@ -1,15 +1,15 @@
 -- What a view of a range keeps of the laws of the words below.
-use Rattle.std.proofs.Common.{◌≡◌, ◌⊎◌, ℕ, ◌+◌, ◌/◌, ◌%◌, Fits, w32, ◌<◌, ◌≤◌, Bool, true, false, IsTrue, List, ◌∷◌, ◌++◌, length, map, refl, ap, sym, subst, ◌∙◌, inl, inr, Result, Ok, Err, arith}
+use Rattle.std.proofs.Common.{◌≡◌, ◌⊎◌, ℕ, zero, suc, ◌+◌, ◌/◌, ◌%◌, eqb, Fits, w32, ◌<◌, ◌≤◌, Bool, true, false, IsTrue, List, ◌∷◌, ◌++◌, length, map, refl, ap, sym, subst, ◌∙◌, inl, inr, Result, Ok, Err, arith}
 use Rattle.std.proofs.lemmas.List.{length-map}
 use Rattle.envy_base.specs.declared.board.Off.{Off}
 use Rattle.envy_base.specs.declared.board.Trouble.{Trouble}
 use Rattle.envy_base.specs.declared.board.Trouble.TheVariants.{Off as TroubleOff, Bad}
-use Rattle.envy_array.specs.Words.{Sheet, IsSheet, Works, Spends, OnPage, Keeps, Loads, Puts, Starts, Finishes, Undoes, has}
+use Rattle.envy_array.specs.Words.{Sheet, IsSheet, Works, Spends, OnPage, Keeps, Loads, LoadsRun, Puts, PutsRun, Starts, Finishes, Undoes, has}
 use Rattle.envy_range.specs.Ranges.{inside, outside, page_in, within}
 use Rattle.envy_range.proofs.Paged.{own-put, page-fits, page-of, put-own, still-there}
 use Rattle.envy_range.specs.Lawful.{inside-long}
 use Rattle.envy_range.proofs.Lengths.{apart-sizes}
-use Rattle.envy_range.proofs.Parts.{inside-at, inside-set, outside-set}
+use Rattle.envy_range.proofs.Parts.{inside-at, inside-set, outside-set, pasted-inside, pasted-outside, run-inside}
 
 -- the further numbers stay with the number of words, and the further numbers below
 pub fixed-view : (first count : ℕ) (s t : Sheet) → length t.words ≡ length s.words → t.fixed ≡ s.fixed → (within first count t).fixed ≡ (within first count s).fixed
@@ -127,6 +127,25 @@ puts-view first count a w (Ok done) s t starts lt p = (
 puts-view first count a w (Err TroubleOff) s t starts lt p = p
 puts-view first count a w (Err Bad) s t starts lt p = (p.0, ap (inside first count) p.1, ap (map (page_in first count)) p.2, p.3)
 
+-- runs
+pub loads-run-view : (first count a : ℕ) (run : List ℕ) (r : Result Unit Off) (s t : Sheet) → a + length run ≤ count → LoadsRun s (first + a) run r t → LoadsRun (within first count s) a run r (within first count t)
+loads-run-view first count a run (Ok done) s t le l = (l.0, l.1 ∙ sym (run-inside first count a (length run) s.words le), ap (inside first count) l.2, ap (map (page_in first count)) l.3)
+loads-run-view first count a run (Err off) s t le l = l
+
+pub load-run-outside : (first count a : ℕ) (run : List ℕ) (r : Result Unit Off) (s t : Sheet) → LoadsRun s a run r t → IsTrue t.on → outside first count t.words ≡ outside first count s.words
+load-run-outside first count a run (Ok done) s t l on = ap (outside first count) l.2
+load-run-outside first count a run (Err off) s t l on = absurd (let clash : true ≡ false = sym on ∙ l in cc)
+
+pub puts-run-view : (first count a : ℕ) (list : List ℕ) (r : Result Unit Trouble) (s t : Sheet) → first + count ≤ length s.words → a + length list ≤ count → PutsRun s (first + a) list r t → PutsRun (within first count s) a list r (within first count t)
+puts-run-view first count a list (Ok done) s t fits le p = (p.0, ap (inside first count) p.1 ∙ pasted-inside first count a (length list) list s.words fits (inside-long first count s.words fits) le (omega arith))
+puts-run-view first count a list (Err TroubleOff) s t fits le p = p
+puts-run-view first count a list (Err Bad) s t fits le (on, rose, (k, few, is)) = (on, rose, (k, few, ap (inside first count) is ∙ pasted-inside first count a k list s.words fits (inside-long first count s.words fits) (omega (arith, le, few)) few))
+
+pub put-run-outside : (first count a : ℕ) (list : List ℕ) (r : Result Unit Trouble) (s t : Sheet) → first + count ≤ length s.words → a + length list ≤ count → PutsRun s (first + a) list r t → IsTrue t.on → outside first count t.words ≡ outside first count s.words
+put-run-outside first count a list (Ok done) s t fits le p on = ap (outside first count) p.1 ∙ pasted-outside first count a (length list) list s.words fits le (omega arith)
+put-run-outside first count a list (Err TroubleOff) s t fits le p on = absurd (let clash : true ≡ false = sym on ∙ p in cc)
+put-run-outside first count a list (Err Bad) s t fits le (lit, rose, (k, few, is)) on = ap (outside first count) is ∙ pasted-outside first count a k list s.words fits (omega (arith, le, few)) few
+
 -- room for a put through the view is room for it below
 pub room-view : (first count a : ℕ) (s : Sheet) → first % 32 ≡ 0 → count % 32 ≡ 0 → a < count → IsTrue (has (within first count s).pages (a / 32)) ⊎ (length (within first count s).pages < s.room) → IsTrue (has s.pages ((first + a) / 32)) ⊎ (length s.pages < s.room)
 room-view first count a s starts whole lt (inl h) = inl (subst (λ (p : ℕ). IsTrue (has s.pages p)) (sym (page-of first a starts)) (own-put first count (a / 32) s.pages (page-fits count a whole lt) h))
@@ -156,3 +175,21 @@ sum-fits first count a s fits law lt = omega (arith, address-below first count a
 
 pub size-below : (first count : ℕ) (s t : Sheet) → first + count ≤ length s.words → length t.words ≡ length s.words → first + count ≤ length t.words
 size-below first count s t fits long = omega (arith, fits, long)
+
+-- and runs of them
+pub run-own : (first count a n : ℕ) (s : Sheet) → first + count ≤ length s.words → a + n ≤ length (within first count s).words → a + n ≤ count
+run-own first count a n s fits le = omega (arith, le, inside-long first count s.words fits)
+
+pub run-below : (first count a n : ℕ) (s : Sheet) → first + count ≤ length s.words → a + n ≤ length (within first count s).words → first + a + n ≤ length s.words
+run-below first count a n s fits le = omega (arith, fits, run-own first count a n s fits le)
+
+pub run-fits : (first count a n : ℕ) (s : Sheet) → first + count ≤ length s.words → IsSheet s → a + n ≤ length (within first count s).words → Fits w32 (first + a)
+run-fits first count a n s fits law le = omega (arith, run-below first count a n s fits le, law.few)
+
+-- there are some
+pub some-of : (n : ℕ) → eqb n 0 ≡ false → 0 < n
+some-of zero none = absurd (let clash : true ≡ false = none in cc)
+some-of (suc n) none = omega arith
+
+pub run-first : (first count a n : ℕ) (s : Sheet) → first + count ≤ length s.words → a + n ≤ length (within first count s).words → 0 < n → a < count
+run-first first count a n s fits le some = omega (arith, run-own first count a n s fits le)

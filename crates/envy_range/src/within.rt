@@ -67,12 +67,23 @@ impl<W: Words> Words for Within<W> {
         self.words.load(self.first + a)
     }
 
+    fn load_run(&mut self, a: u32, into: &mut [u64]) -> Result<(), Off> {
+        self.words.load_run(self.first + a, into)
+    }
+
     fn start(&mut self) -> Result<(), Off> {
         self.words.start()
     }
 
     fn put(&mut self, a: u32, w: u64) -> Result<(), Trouble> {
         self.words.put(self.first + a, w)
+    }
+
+    fn put_run(&mut self, a: u32, list: &[u64]) -> Result<(), Trouble> {
+        if list.is_empty() {
+            return Ok(());
+        }
+        self.words.put_run(self.first + a, list)
     }
 
     fn finish(&mut self) -> Result<(), Off> {

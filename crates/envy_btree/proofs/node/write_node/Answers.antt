@@ -1,9 +1,9 @@
 use Rattle.std.proofs.Common.{◌+◌, ◌*◌, ◌/◌, ◌∙◌, ap, sym, subst, arith, length, refl}
 use Rattle.envy_array.proofs.Working.{Works-trans}
-use Rattle.envy_array.specs.Words.{OnPage}
+use Rattle.envy_array.specs.Words.{OnPage, pasted}
 use Rattle.envy_heap.specs.Pieces.{head, at, one}
 use Rattle.envy_btree.specs.Tree.{Shows}
-use Rattle.envy_btree.specs.Nodes.{pasted, OnlyPiece}
+use Rattle.envy_btree.specs.Nodes.{OnlyPiece}
 use Rattle.envy_btree.proofs.Writing.{written}
 use Rattle.envy_btree.proofs.Exits.{none-if, err-fails, put-fails, fails-after, room-left, page-works, first-page, two-pages, put-room, head-within, keys-within, slots-within, keys-page, slots-page}
 use Rattle.envy_btree.proofs.Exits.{mul-fits, head-fits, keys-fit, slots-fit}
