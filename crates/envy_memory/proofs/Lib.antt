@@ -17,6 +17,7 @@ pub mod PutLemmas
 pub mod PutRuns
 pub mod ReserveLemmas
 pub mod RoomLemmas
+pub mod RunSheets
 pub mod Slots
 pub mod Standing
 pub mod Stepped

@@ -1,10 +1,10 @@
 -- Runs of words, as a memory with one transaction shows them.
-use Rattle.std.proofs.Common.{◌≡◌, ◌≢◌, ◌⊎◌, inl, inr, ℕ, zero, suc, ◌+◌, ◌*◌, ◌/◌, ◌%◌, ◌<◌, ◌≤◌, Bool, true, false, List, length, take, drop, get_or, set, Option, None, Some, refl, sym, ◌∙◌, ap, subst, arith}
+use Rattle.std.proofs.Common.{◌≡◌, ◌≢◌, ◌⊎◌, inl, inr, ℕ, zero, suc, ◌+◌, ◌-◌, ◌*◌, ◌/◌, ◌%◌, ◌^◌, ◌<◌, ◌≤◌, Bool, true, false, List, length, take, drop, get_or, set, Option, None, Some, refl, sym, ◌∙◌, ap, subst, arith}
 use Rattle.std.specs.Prelude.{◌↔◌, ◌&&◌, IsTrue, Result, Ok, Err, nat_lt, is_none, if◌then◌else◌, slice_index, slice_set}
 use Rattle.std.proofs.Math.Logic.{∥∥₁_elim}
 use Rattle.std.proofs.Props.{props}
-use Rattle.std.proofs.lemmas.Bool.{lt-ltb}
-use Rattle.std.proofs.lemmas.List.{get_or-drop, get_or-take, length-drop, length-take}
+use Rattle.std.proofs.lemmas.Bool.{cases_lt, lt-ltb}
+use Rattle.std.proofs.lemmas.List.{ext_get_or, get_or-drop, get_or-take, length-drop, length-take}
 use Rattle.std.proofs.lemmas.List.Edits.{paste_more, paste_none}
 use Rattle.envy_array.specs.Array.{Array}
 use Rattle.envy_array.specs.Words.{OnPage, PutsRun as SheetPutsRun, Sheet, Spends, Works as SheetWorks, has, pasted, run_at}
@@ -32,13 +32,13 @@ use Rattle.envy_memory.specs.declared.faults.PutFault.TheVariants.{Off as PutOff
 use Rattle.envy_memory.proofs.Ended.{PutMeets, never-refused, put-answer, put-keeps, put-works}
 use Rattle.envy_memory.proofs.Facts.{on-from}
 use Rattle.envy_memory.proofs.Pricing.{sheet-spends}
-use Rattle.envy_memory.proofs.Transacting.{pages_of, put-kept, put-words, put-works-bad, unowned-has, words-held}
+use Rattle.envy_memory.proofs.Transacting.{put-kept, put-words, put-works-bad, owned-has, pages-long, words-held}
 
 -- ---- loads
 
 -- lists of one length whose words are the same
 pub same-words : (xs ys : List ℕ) → length xs ≡ length ys → ((i : ℕ) → i < length xs → get_or xs i 0 ≡ get_or ys i 0) → xs ≡ ys
-same-words xs ys long each = ?
+same-words xs ys long each = ext_get_or 0 xs ys long each
 
 pub run-in-range : (p : Picture) (b : Bool) (a n : ℕ) → a + n ≤ length (sheet_of p b).words → RunsPast a n p → ⊥
 run-in-range p b a n le (on, some, past) = let long = words_long (p.chart.on && b) p.chart in absurd (omega arith)
@@ -203,10 +203,10 @@ pub record RunLeaves (a : ℕ) (list : List ℕ) (answer : Result Unit PutFault)
 run-puts : (a k : ℕ) (list : List ℕ) (answer : Result Unit PutFault) (p x q : Picture) → k < length list → answer ≢ Ok tt → Ran a k list p x → Word a (a + k) (slice_index list k) answer x q → SheetPutsRun (sheet_of p true) a list (trouble_of answer) (sheet_of q true)
 run-puts a k list (Ok tt) p x q lt no ran word = absurd (no refl)
 run-puts a k list (Err PutOff) p x q lt no ran word = word.did
-run-puts a k list (Err PutBad) p x q lt no ran word = (word.did.0, rose-from p.chart.bads x.chart.bads q.chart.bads (SheetWorks.bads (OnPage.works ran.page)) word.did.2, (k, omega arith, word.did.1 ∙ ran.words))
+run-puts a k list (Err PutBad) p x q lt no ran word = (word.did.0, rose-from p.chart.bads x.chart.bads q.chart.bads (SheetWorks.bads (OnPage.works ran.page)) (SheetWorks.bads (OnPage.works word.page)) word.did.2, (k, omega arith, word.did.1 ∙ ran.words))
   where
-    rose-from : (l m n : ℕ) → l ≤ m → Rose m n → Rose l n
-    rose-from l m n le rose few = ?
+    rose-from : (l m n : ℕ) → l ≤ m → m ≤ n → Rose m n → Rose l n
+    rose-from l m n le ge rose few = elim (cases_lt m (2 ^ 64 - 1)) [ inl lt ↦ (let more : m < n = rose lt in omega arith) | inr most ↦ omega (arith, most) ]
 run-puts a k list (Err PutRange) p x q lt no ran word = absurd word.fine
 run-puts a k list (Err PutClosed) p x q lt no ran word = absurd word.fine
 run-puts a k list (Err (PutHeld u)) p x q lt no ran word = absurd word.fine
@@ -245,8 +245,19 @@ run-has-room a list p m few (on, active, lacks) = at (pages_within a (length lis
     one : pages_within a (length list) p.chart.shape.pages ≤ 1
     one = let met = met-few a (length list) m.page in omega arith
 
+    spent : (b : Bool) (s n : ℕ) → b ≡ false → s < n + ((if b then 1 else 0) + 0) → n ≤ s → ⊥
+    spent true s n none lack le = let clash : true ≡ false = none in cc
+    spent false s n none lack le = omega arith
+
+    most : (b : Bool) (s n : ℕ) → s < n + ((if b then 1 else 0) + 0) → n < s → ⊥
+    most true s n lack lt = omega arith
+    most false s n lack lt = omega arith
+
+    first : a / 32 + 0 ≡ a / 32
+    first = omega arith
+
     at : (k : ℕ) → k ≤ 1 → p.chart.shape.shadows < length p.owned.pairs + unowned k (a / 32) p.owned → IsTrue (has (sheet_of p true).pages (a / 32)) ⊎ (length (sheet_of p true).pages < (sheet_of p true).room) → ⊥
     at zero le lack room = omega (arith, few)
-    at (suc zero) le lack (inl there) = let owned = unowned-has p.owned (a / 32) there in ?
-    at (suc zero) le lack (inr less) = ?
+    at (suc zero) le lack (inl there) = spent (is_unowned p.owned (a / 32 + 0)) p.chart.shape.shadows (length p.owned.pairs) (ap (is_unowned p.owned) first ∙ owned-has p.owned.pairs (a / 32) there) lack few
+    at (suc zero) le lack (inr less) = let long = pages-long p.owned.pairs in most (is_unowned p.owned (a / 32 + 0)) p.chart.shape.shadows (length p.owned.pairs) lack (omega (arith, less))
     at (suc (suc k)) le lack room = omega arith

@@ -1,6 +1,6 @@
 -- A memory with one transaction: what its calls do to the words.
 use Rattle.std.proofs.Common.{◌≡◌, ◌≢◌, ◌⊎◌, inl, inr, ℕ, zero, suc, ◌+◌, ◌*◌, ◌<◌, ◌≤◌, Bool, true, false, List, [], ◌∷◌, ◌++◌, map, length, get_or, Option, None, Some, refl, sym, ◌∙◌, ap, subst, arith}
-use Rattle.std.specs.Prelude.{◌&&◌, ◌==◌, IsTrue, Result, Ok, Err, replicate, slice_index, slice_set, position}
+use Rattle.std.specs.Prelude.{◌&&◌, ◌==◌, IsTrue, is_none, Result, Ok, Err, replicate, slice_index, slice_set, position}
 use Rattle.std.proofs.Math.Logic.{∥∥₁_elim, ∥∥₁_map}
 use Rattle.std.proofs.Props.{props}
 use Rattle.std.proofs.lemmas.Bool.{cases_eq, eq-eqb, ne_eqb, or_cases, or_left, or_right}
@@ -332,6 +332,14 @@ has-none (e ∷ rest) p none = at (cases_eq e.page p) (has-none rest p)
     at (inl same) more = let is : (e.page == p) ≡ true = eq-eqb e.page p same in absurd (let clash : Some e.slot ≡ None = rw is at none in cc)
     at (inr other) more = let is : (e.page == p) ≡ false = ne_eqb e.page p other in rw is (more (rw is at none))
 
+-- a page that is among those put has an owner
+pub owned-has : (pairs : List Pair) (p : ℕ) → IsTrue (has (pages_of pairs) p) → is_none (owner_of pairs p) ≡ false
+owned-has pairs p there = at (owner_of pairs p) refl
+  where
+    at : (o : Option ℕ) → owner_of pairs p ≡ o → is_none o ≡ false
+    at (Some t) is = refl
+    at None is = absurd (let clash : true ≡ false = sym there ∙ has-none pairs p is in cc)
+
 has-some : (pairs : List Pair) (p t : ℕ) → owner_of pairs p ≡ Some t → IsTrue (has (pages_of pairs) p)
 has-some [] p t some = absurd (let clash : None ≡ Some t = some in cc)
 has-some (e ∷ rest) p t some = at (cases_eq e.page p) (has-some rest p t)
@@ -356,7 +364,7 @@ pages-more : (pairs : List Pair) (x : Pair) → length (pages_of (pairs ++ x ∷
 pages-more [] x = refl
 pages-more (e ∷ rest) x = let more = pages-more rest x in omega arith
 
-pages-long : (pairs : List Pair) → length (pages_of pairs) ≡ length pairs
+pub pages-long : (pairs : List Pair) → length (pages_of pairs) ≡ length pairs
 pages-long [] = refl
 pages-long (e ∷ rest) = let more = pages-long rest in omega arith
 
