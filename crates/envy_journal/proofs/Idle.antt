@@ -52,7 +52,7 @@ has_front tag rest is = elim (cases_eq tag 2) [
   | inr two ↦ elim (cases_eq tag 3) [
     | inl erase ↦ front_of 4 3 tag rest _ erase (behind_erase tag erase) is (erase_leads (take 4 rest) (long 4 tag rest is (behind_erase tag erase)))
     | inr three ↦ elim (cases_eq (words_in tag) 0) [
-      | inl zero ↦ absurd (some_behind tag rest is (behind_other tag zero two three))
+      | inl none ↦ absurd (some_behind tag rest is (behind_other tag none two three))
       | inr any ↦
           let n = words_in tag in
           let size = behind_words tag any in

@@ -1,12 +1,12 @@
-use Rattle.std.proofs.Common.{◌≡◌, ◌∙◌, ◌+◌, ◌*◌, ℕ, List, [], ◌∷◌, ◌++◌, drop, sym, ap, subst, refl}
+use Rattle.std.proofs.Common.{◌≡◌, ◌∙◌, ◌+◌, ◌*◌, ℕ, List, [], ◌∷◌, ◌++◌, OnErr, drop, sym, ap, subst, refl}
 use Rattle.std.specs.List.{All}
 use Rattle.std.proofs.lemmas.List.Elements.{All-nil, All-push}
 use Rattle.envy_base.specs.declared.shape.Shape.{Shape}
 use Rattle.envy_journal.specs.declared.operation.Operation.{Operation}
 use Rattle.envy_journal.specs.declared.operation.Operation.TheVariants.{Put}
-use Rattle.envy_journal.specs.Content.{Content, after, changed, content_of, IsWithin}
+use Rattle.envy_journal.specs.Content.{Content, after, changed, content_of, HasMisfit, IsWithin}
 use Rattle.envy_journal.specs.Reading.{puts}
-use Rattle.envy_journal.proofs.Replayed.{after-append}
+use Rattle.envy_journal.proofs.Replayed.{after-append, on_err}
 use Rattle.envy_journal.proofs.Words.{put_in, puts_next, puts_none}
 use Rattle.envy_journal.proofs.replay.redo_run.Goals as goal
 
@@ -48,8 +48,10 @@ returns-in_err-redo_put-clause-misfit g c =
     let inv = c.loop-i.invariant in
     let w = c.number_at-first.result in
     let i = c.loop-i.i in
-    let v = c.word_at.result in (
+    let v = c.word_at.result in
+    let misfit : HasMisfit (g.B.Board.state c.args.board.now).shape (puts w c.args.count (drop 5 c.args.bytes.now)) = (
       Put (w + i) v,
       put_in w i c.args.count c.args.bytes.now v c.loop-i-test.true c.word_at.ensures,
       λ is. c.in_err-redo_put.ensures.misfit (subst (λ (sh : Shape). IsWithin sh (Put (w + i) v)) (sym inv.shape) is),
-    )
+    ) in
+    subst (λ (k : ℕ). OnErr c.from_residual.result (HasMisfit (g.B.Board.state c.args.board.now).shape (puts k c.args.count (drop 5 c.args.bytes.now)))) c.number_at-first.ensures (on_err c.from_residual.result misfit)

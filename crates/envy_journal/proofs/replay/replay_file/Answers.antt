@@ -30,19 +30,19 @@ loop-at-preserved g c =
     let item = c.in-Operation in
     let found = subst (λ (l : List ℕ). Finds c.loop-at.within l (Whole item.operation item.size)) (take_rest bytes c.loop-at.at) item.ensures.finds in
     let counts = subst (λ (l : List ℕ). Counts l (Whole item.operation item.size)) (take_rest bytes c.loop-at.at) (item.ensures.counts found.0) in
-    let more = done_more (s c.args.board.now) (s c.loop-at.board) bytes c.loop-at.at c.loop-at.within c.loop-at.invariant (s c.redo.new.board) item.operation item.size found.0 found.1 found.2 found.3 counts c.in-Ok.ensures.within c.redo.ensures.shape c.in-Ok.ensures.ok in
+    let more = done_more (s c.args.board.now) (s c.loop-at.board) bytes c.loop-at.at c.loop-at.within c.loop-at.invariant (s c.redo.new.board) item.operation item.size found.0 found.1 found.2 found.3 counts c.in-Ok-redo.ensures.within c.redo.ensures.shape c.in-Ok-redo.ensures.ok in
     subst (λ (w : Bool). HasDone (s c.args.board.now) (s c.redo.new.board) bytes (c.loop-at.at + item.size) w) (sym found.0) more
 
 pub loop-at-init : goal.loop-at-init
 loop-at-init g c = done_none (g.B.Board.state c.args.board.now) c.args.bytes.now c.requires
 
-pub returns-in-Err-clause-misfit : goal.returns-in-Err-clause-misfit
-returns-in-Err-clause-misfit g c = λ is.
+pub returns-in-Err-redo-clause-misfit : goal.returns-in-Err-redo-clause-misfit
+returns-in-Err-redo-clause-misfit g c = λ is.
     let s = g.B.Board.state in
     let bytes = c.args.bytes.now in
     let item = c.in-Operation in
     let found = subst (λ (l : List ℕ). Finds c.loop-at.within l (Whole item.operation item.size)) (take_rest bytes c.loop-at.at) item.ensures.finds in
-    misfit_found (s c.args.board.now) (s c.loop-at.board) bytes c.loop-at.at c.loop-at.within c.loop-at.invariant item.operation item.size found.0 found.3 c.in-Err.ensures.misfit
+    misfit_found (s c.args.board.now) (s c.loop-at.board) bytes c.loop-at.at c.loop-at.within c.loop-at.invariant item.operation item.size found.0 found.3 c.in-Err-redo.ensures.misfit
 
 pub returns-then-within-clause-damaged : goal.returns-then-within-clause-damaged
 returns-then-within-clause-damaged g c = λ place is.
@@ -86,21 +86,21 @@ loop-at-preserved-in-Run g c =
     let rest = take_rest bytes at in
     let found = subst (λ (l : List ℕ). Finds c.loop-at.within l (Run item.count)) rest item.ensures.finds in
     let counts = subst (λ (l : List ℕ). Counts l (Run item.count)) rest (item.ensures.counts found.0) in
-    let did = c.in-Ok-redo_run.ensures in
+    let did = c.in-Ok.ensures in
     let fits = subst (λ (l : List ℕ). All (IsWithin (s c.loop-at.board).shape) (run_at item.count l)) rest did.within in
     let content = subst (λ (l : List ℕ). content_of (s c.redo_run.new.board) ≡ after (s c.loop-at.board).shape.rows (run_at item.count l) (content_of (s c.loop-at.board))) rest did.ok in
     let more = done_these (s c.args.board.now) (s c.loop-at.board) bytes at c.loop-at.within c.loop-at.invariant (s c.redo_run.new.board) (run_at item.count (drop at bytes)) (5 + 8 * item.count) found.0 (omega arith) found.2 found.3 counts fits c.redo_run.ensures.shape content in
     subst (λ (w : Bool). HasDone (s c.args.board.now) (s c.redo_run.new.board) bytes (at + (5 + 8 * item.count)) w) (sym found.0) more
 
-pub returns-in-Err-redo_run-clause-misfit : goal.returns-in-Err-redo_run-clause-misfit
-returns-in-Err-redo_run-clause-misfit g c = λ is.
+pub returns-in-Err-clause-misfit : goal.returns-in-Err-clause-misfit
+returns-in-Err-clause-misfit g c = λ is.
     let s = g.B.Board.state in
     let bytes = c.args.bytes.now in
     let at = c.loop-at.at in
     let item = c.in-Run in
     let rest = take_rest bytes at in
     let found = subst (λ (l : List ℕ). Finds c.loop-at.within l (Run item.count)) rest item.ensures.finds in
-    let misfit = subst (λ (l : List ℕ). HasMisfit (s c.loop-at.board).shape (run_at item.count l)) rest c.in-Err-redo_run.ensures.misfit in
+    let misfit = subst (λ (l : List ℕ). HasMisfit (s c.loop-at.board).shape (run_at item.count l)) rest c.in-Err.ensures.misfit in
     misfits_found (s c.args.board.now) (s c.loop-at.board) bytes at c.loop-at.within c.loop-at.invariant (run_at item.count (drop at bytes)) (5 + 8 * item.count) found.0 found.3 misfit
 
 pub redo_run-requires : goal.redo_run-requires
