@@ -22,9 +22,8 @@ use Rattle.envy_calls.specs.declared.code.Code.{Code}
 use Rattle.envy_calls.specs.declared.code.Code.TheVariants.{NoMemory, Unformatted, Older, OtherShape, Setup as OfSetup, Broken}
 use Rattle.envy_disk.specs.Disk.{with_notes}
 use Rattle.envy_journal.specs.Content.{Content, HasMisfit, content_of, holds}
-use Rattle.envy_journal.specs.Head.{head_bytes}
+use Rattle.envy_journal.specs.Head.{HasHead}
 use Rattle.envy_journal.specs.Journal.{journal_state}
-use Rattle.envy_journal.specs.Log.{Begins}
 use Rattle.envy_journal.specs.Reading.{operations}
 use Rattle.envy_journal.specs.Snapshot.{most_of}
 use Rattle.envy_journal.specs.declared.open_error.OpenError.{OpenError}
@@ -65,7 +64,7 @@ module _ (sh : Shape) (file : List ℕ) (s : State) (o : IsOpened sh file s) whe
 
   reopens : Reopens (chart s) file
   reopens = record {
-    head = subst (λ (x : Shape). Begins (head_bytes x) file) (sym o.shape) o.head;
+    head = subst (λ (x : Shape). HasHead x file) (sym o.shape) o.head;
     fields = ap (λ (y : Content). map_fields s.shape y.sram) (sym here);
     flash = ap (λ (y : Content). y.flash) (sym here);
     ends = o.ends;

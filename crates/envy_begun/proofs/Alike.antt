@@ -19,8 +19,7 @@ use Rattle.envy_memory.specs.declared.faults.AttachFault.TheVariants.{Off as Att
 use Rattle.envy_device.specs.Device.{Elapses, LeavesOnly, Only}
 use Rattle.envy_disk.specs.Disk.{Syncs}
 use Rattle.envy_journal.specs.Content.{Content, content_of, holds}
-use Rattle.envy_journal.specs.Head.{StandsFor, head_bytes}
-use Rattle.envy_journal.specs.Log.{Begins}
+use Rattle.envy_journal.specs.Head.{HasHead, StandsFor}
 use Rattle.envy_journal.specs.Reading.{operations}
 use Rattle.envy_journal.specs.declared.operation.Operation.{Operation}
 use Rattle.envy_soundness.specs.Same.{Counted, Kept}
@@ -64,7 +63,7 @@ stands-alike sh was file stands = record {
 
 reopens-alike : (sh : Shape) (was : List ℕ) (s : State) → IsOpened sh was s → (file : List ℕ) → Reopens (chart s) file → OpensAlike sh was file
 reopens-alike sh was s o file r = record {
-  head = subst (λ (x : Shape). Begins (head_bytes x) file) o.shape r.head;
+  head = subst (λ (x : Shape). HasHead x file) o.shape r.head;
   fields = subst (λ (x : Shape). map_fields x (holds x (operations file)).sram ≡ map_fields x s.sram) o.shape r.fields ∙ ap (λ (y : Content). map_fields sh y.sram) o.content;
   flash = subst (λ (x : Shape). (holds x (operations file)).flash ≡ s.flash) o.shape r.flash ∙ ap (λ (y : Content). y.flash) o.content;
   ends = r.ends;
@@ -119,7 +118,7 @@ kept-words sh was s t o kept file r words opens =
     let here : content_of s ≡ holds s.shape (operations was) = o.content ∙ ap (λ (x : Shape). holds x (operations was)) (sym o.shape) in
     let shape : t.shape ≡ sh = kept.shape ∙ o.shape in
     record {
-      head = subst (λ (x : Shape). Begins (head_bytes x) file) shape r.head;
+      head = subst (λ (x : Shape). HasHead x file) shape r.head;
       finds = λ x is content. same_words (chart t) x file r (is ∙ sym shape) content ∙ kept.durable ∙ opens.finds s o.shape here;
       magic = λ x is content. ap (λ (f : Fields). f.magic) (same_fields (chart t) x file r (is ∙ sym shape) content) ∙ kept.magic ∙ opens.magic s o.shape here;
       sound = λ x is content. same_sound (chart t) x file r (is ∙ sym shape) content kept.sound;

@@ -2,8 +2,7 @@
 use Rattle.std.proofs.Common.{◌≡◌, ◌∙◌, ◌≤◌, ℕ, List, length, take, ap, arith, length-take}
 use Rattle.envy_base.specs.Shape.{version_of}
 use Rattle.envy_base.specs.declared.shape.Shape.{Shape}
-use Rattle.envy_journal.specs.Head.{head_bytes}
-use Rattle.envy_journal.specs.Log.{Begins}
+use Rattle.envy_journal.specs.Head.{HasHead}
 use Rattle.envy_begun.specs.Opens.{OpensAs}
 use Rattle.envy_synced.specs.Disk.{Reopens}
 use Rattle.envy_soundness.specs.Sound.{IsSound}
@@ -29,7 +28,7 @@ opens-as was file good opens = record {
 }
 
 -- a file that begins with a head is at least as long
-pub long_head : (sh : Shape) (bytes : List ℕ) → Begins (head_bytes sh) bytes → 33 ≤ length bytes
+pub long_head : (sh : Shape) (bytes : List ℕ) → HasHead sh bytes → 33 ≤ length bytes
 long_head sh bytes head =
-    let long : length (take 33 bytes) ≡ 33 = ap length head in
+    let long : length (take 33 bytes) ≡ 33 = ap length head.begins in
     omega (arith, long, length-take {A = ℕ})

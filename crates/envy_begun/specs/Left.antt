@@ -9,8 +9,7 @@ use Rattle.envy_begun.specs.declared.file_contents.FileContents.TheVariants.{Unm
 use Rattle.envy_begun.specs.declared.open_fault.OpenFault.{OpenFault}
 use Rattle.envy_begun.specs.declared.open_fault.OpenFault.TheVariants.{Failed, Memory, NotMade}
 use Rattle.envy_journal.specs.Content.{content_of, holds}
-use Rattle.envy_journal.specs.Head.{IsUnmade, StandsFor, head_bytes}
-use Rattle.envy_journal.specs.Log.{Begins}
+use Rattle.envy_journal.specs.Head.{HasHead, IsUnmade, StandsFor}
 use Rattle.envy_journal.specs.Reading.{operations, IsUnbroken}
 use Rattle.envy_soundness.specs.Sound.{IsSound}
 use Rattle.envy_soundness.specs.Words.{durable}
@@ -25,7 +24,7 @@ pub record Leaves {D : Type 0} (left_since : D → ℕ → List ℕ → Type 0) 
 
 -- a journal of these sizes that makes the same map and the same flash as the file that was there
 pub record OpensAlike (sh : Shape) (was file : List ℕ) : Type 0 where
-  pub head : Begins (head_bytes sh) file
+  pub head : HasHead sh file
   pub fields : map_fields sh (holds sh (operations file)).sram ≡ map_fields sh (holds sh (operations was)).sram
   pub flash : (holds sh (operations file)).flash ≡ (holds sh (operations was)).flash
   pub ends : IsUnbroken file
@@ -33,7 +32,7 @@ pub record OpensAlike (sh : Shape) (was file : List ℕ) : Type 0 where
 -- A journal of a board of these sizes. A board on which its operations are done anew is formatted and sound, and a restart
 -- finds these words on it: `OpensAs`, in any version of the sizes.
 pub record HasWords (sh : Shape) (words file : List ℕ) : Type 0 where
-  pub head : Begins (head_bytes sh) file
+  pub head : HasHead sh file
   pub finds : (s : State) → s.shape ≡ sh → content_of s ≡ holds s.shape (operations file) → durable (chart s) ≡ words
   pub magic : (s : State) → s.shape ≡ sh → content_of s ≡ holds s.shape (operations file) → (chart s).fields.magic ≡ the_magic
   pub sound : (s : State) → s.shape ≡ sh → content_of s ≡ holds s.shape (operations file) → IsSound (chart s)
@@ -45,7 +44,7 @@ KeepsWords sh was file = (words : List ℕ) → OpensAs sh words was → HasWord
 
 -- a journal of a board of these sizes on which no memory was formatted
 pub record IsUnformatted (sh : Shape) (file : List ℕ) : Type 0 where
-  pub head : Begins (head_bytes sh) file
+  pub head : HasHead sh file
   pub magic : slice_index (holds sh (operations file)).sram 0 ≡ 0
   pub ends : IsUnbroken file
 

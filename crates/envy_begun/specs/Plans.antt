@@ -6,8 +6,7 @@ use Rattle.envy_array.specs.Array.{Array, zeros}
 use Rattle.envy_base.specs.State.{State}
 use Rattle.envy_base.specs.declared.shape.Shape.{Shape}
 use Rattle.envy_journal.specs.Content.{content_of, holds}
-use Rattle.envy_journal.specs.Head.{IsUnmade, head_bytes}
-use Rattle.envy_journal.specs.Log.{Begins}
+use Rattle.envy_journal.specs.Head.{HasHead, IsUnmade}
 use Rattle.envy_journal.specs.Reading.{operations, IsUnbroken}
 use Rattle.envy_map.specs.Fields.{Chart}
 use Rattle.envy_memory.specs.Attaching.{IsTakenUp}
@@ -25,7 +24,7 @@ use Rattle.envy_synced.specs.Disk.{IsLast, IsSynced, Reopens}
 
 -- a board on which the operations of a file were done
 pub record IsOpened (sh : Shape) (file : List ℕ) (s : State) : Type 0 where
-  pub head : Begins (head_bytes sh) file
+  pub head : HasHead sh file
   pub shape : s.shape ≡ sh
   pub content : content_of s ≡ holds sh (operations file)
   pub ends : IsUnbroken file

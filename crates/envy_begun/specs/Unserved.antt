@@ -7,8 +7,7 @@ use Rattle.envy_base.specs.declared.shape.ShapeFault.{ShapeFault}
 use Rattle.envy_base.specs.Shape.{checked as shape_checked}
 use Rattle.envy_journal.specs.Content.{HasMisfit}
 use Rattle.envy_journal.specs.Found.{IsDamaged}
-use Rattle.envy_journal.specs.Head.{HasNoJournal, HasSixSizes, IsOtherVersion, IsUnmade, head_bytes}
-use Rattle.envy_journal.specs.Log.{Begins}
+use Rattle.envy_journal.specs.Head.{HasHead, HasNoJournal, HasSixSizes, IsOtherVersion, IsUnmade}
 use Rattle.envy_journal.specs.Reading.{operations}
 use Rattle.envy_policy.specs.Setup.{checked}
 use Rattle.envy_args.specs.Words.{rule_within}
@@ -60,11 +59,11 @@ HasNoMemory sh file = (operations file ≢ []) × HasNoWords sh file
 
 -- no journal, or one of sizes that break a rule, or one that holds no memory
 abbrev pub IsNone : List ℕ → Type 0
-IsNone file = HasNoJournal file ⊎ ((sh : Shape) × Begins (head_bytes sh) file × HasSixSizes sh × (((fault : ShapeFault) × (shape_checked sh ≡ Err fault)) ⊎ HasNoMemory sh file))
+IsNone file = HasNoJournal file ⊎ ((sh : Shape) × HasHead sh file × HasSixSizes sh × (((fault : ShapeFault) × (shape_checked sh ≡ Err fault)) ⊎ HasNoMemory sh file))
 
 -- a journal whose sizes the options leave
 pub record IsOver (options : KeepOptions) (sh : Shape) (file : List ℕ) : Type 0 where
-  pub head : Begins (head_bytes sh) file
+  pub head : HasHead sh file
   pub six : HasSixSizes sh
   pub named : shape_named options.sizes sh ≡ sh
 
@@ -73,7 +72,7 @@ abbrev pub Refuses : KeepOptions → List ℕ → OpenFault → Type 0
 Refuses options file (Setup fault) = IsUnmade file × (checked (setup_over options (new_shape options)) ≡ Err fault)
 Refuses options file NoJournal = (IsUnmade file → ⊥) × IsNone file
 Refuses options file OtherVersion = (IsUnmade file → ⊥) × IsOtherVersion file
-Refuses options file OtherSizes = (IsUnmade file → ⊥) × (sh : Shape) × Begins (head_bytes sh) file × (shape_checked sh ≡ Ok tt) × (shape_named options.sizes sh ≢ sh)
+Refuses options file OtherSizes = (IsUnmade file → ⊥) × (sh : Shape) × HasHead sh file × (shape_checked sh ≡ Ok tt) × (shape_named options.sizes sh ≢ sh)
 Refuses options file (Options fault) = (IsUnmade file → ⊥) × (sh : Shape) × IsOver options sh file × (shape_checked sh ≡ Ok tt) × (checked (setup_over options sh) ≡ Err fault)
 Refuses options file (Damaged place) = (IsUnmade file → ⊥) × (sh : Shape) × IsOver options sh file × IsDamaged place file
 Refuses options file other = ⊥

@@ -5,8 +5,7 @@ ghost use Rattle.envy_args.specs.declared.keep.KeepOptions.{KeepOptions as Optio
 ghost use Rattle.envy_policy.specs.declared.setup.SetupFault.{SetupFault};
 ghost use Rattle.envy_begun.specs.declared.open_fault.OpenFault.TheVariants.{Setup as OfSetup};
 ghost use Rattle.envy_base.specs.Shape.{IsShape, checked as shape_checked};
-ghost use Rattle.envy_journal.specs.Head.{HasSixSizes, IsUnmade, head_bytes};
-ghost use Rattle.envy_journal.specs.Log.{Begins};
+ghost use Rattle.envy_journal.specs.Head.{HasHead, HasSixSizes, IsUnmade};
 ghost use Rattle.envy_journal.specs.Reading.{operations};
 ghost use Rattle.envy_begun.specs.Plans.{IsFound, Plans};
 ghost use Rattle.envy_begun.specs.Unserved.{Refuses};
@@ -45,7 +44,7 @@ fn holding_of(bytes: &[u8]) -> FileContents
 // The sizes that a journal has, where they break no rule.
 fn sizes(bytes: &[u8]) -> Result<Shape, OpenFault>
     requires made { IsUnmade bytes.now → ⊥ }
-    ensures head { IfOk result (λ shape. Begins (head_bytes shape) bytes.now) }
+    ensures head { IfOk result (λ shape. HasHead shape bytes.now) }
     ensures six { IfOk result (λ shape. HasSixSizes shape) }
     ensures long { IfOk result (λ _. 33 ≤ length bytes.now) }
     ensures checks { IfOk result (λ shape. shape_checked shape ≡ Ok tt) }

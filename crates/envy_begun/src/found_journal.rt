@@ -4,8 +4,7 @@ ghost use Rattle.envy_array.specs.Array.{zeros};
 ghost use Rattle.envy_device.specs.Device.{Only};
 ghost use Rattle.envy_journal.specs.Content.{HasMisfit, blank, content_of};
 ghost use Rattle.envy_journal.specs.Found.{IsEnd};
-ghost use Rattle.envy_journal.specs.Head.{StandsFor, head_bytes};
-ghost use Rattle.envy_journal.specs.Log.{Begins};
+ghost use Rattle.envy_journal.specs.Head.{HasHead, StandsFor};
 ghost use Rattle.envy_journal.specs.Reading.{operations};
 ghost use Rattle.envy_base.specs.declared.shape.Shape.{Shape};
 ghost use Rattle.envy_begun.specs.Beginning.{HasBegun, HasOperationsOf, IsStopped};
@@ -40,7 +39,7 @@ use std::alloc::Global;
 // Does the operations of a journal on a blank board, and answers how many bytes of the file count.
 fn replayed<B: Steady>(board: &mut B, bytes: &[u8]) -> Result<usize, OpenFault>
     requires blank { content_of (B.state board.old) ≡ blank (B.state board.old).shape }
-    requires head { Begins (head_bytes (B.state board.old).shape) bytes.now }
+    requires head { HasHead (B.state board.old).shape bytes.now }
     ensures shape { (B.state board.new).shape ≡ (B.state board.old).shape }
     ensures opened { OnOk result (IsOpened (B.state board.old).shape bytes.now (B.state board.new)) }
     ensures end { IfOk result (λ end. IsEnd end bytes.now) }
@@ -77,7 +76,7 @@ fn read_journal<B: Steady>(
     setup: &Setup,
 ) -> Result<usize, OpenFault>
     requires blank { content_of (B.state board.old) ≡ blank (B.state board.old).shape }
-    requires head { Begins (head_bytes (B.state board.old).shape) bytes.now }
+    requires head { HasHead (B.state board.old).shape bytes.now }
     requires shape { (B.state board.old).shape ≡ setup.now.shape }
     requires setup { checked setup.now ≡ Ok tt }
     ensures shape { (B.state board.new).shape ≡ (B.state board.old).shape }
@@ -195,7 +194,7 @@ pub(crate) fn begin_blank<B: Steady + Drop, D: Replaceable + Drop>(
     requires bytes { bytes.now ≡ D.seen device }
     requires durable { Only (D.seen device) (D.may_leave device) }
     requires blank { content_of (B.state board) ≡ blank (B.state board).shape }
-    requires head { Begins (head_bytes setup.shape) bytes.now }
+    requires head { HasHead setup.shape bytes.now }
     requires shape { (B.state board).shape ≡ setup.shape }
     ensures begun { IfOk result (HasBegun setup (zeros setup.shape.pages setup.shape.shadows)) }
     ensures fresh { IfOk result (λ memory. IsSynced memory.chart × IsFresh memory.chart) }
@@ -230,7 +229,7 @@ pub fn begin_again<B: Steady + Drop, D: Replaceable + Drop>(
     requires bytes { bytes.now ≡ D.seen device }
     requires durable { Only (D.seen device) (D.may_leave device) }
     requires blank { content_of (B.state board) ≡ blank (B.state board).shape }
-    requires head { Begins (head_bytes setup.shape) bytes.now }
+    requires head { HasHead setup.shape bytes.now }
     requires shape { (B.state board).shape ≡ setup.shape }
     requires setup { checked setup ≡ Ok tt }
     ensures begun { IfOk result (λ memory. (words : List ℕ) × OpensAs setup.shape words bytes.now

@@ -1,12 +1,12 @@
 -- A batch between its gate and its end, and what ends behind kept bytes.
-use Rattle.std.proofs.Common.{◌≡◌, ℕ, ◌+◌, ◌≤◌, Bool, true, false, List, [], ◌∷◌, ◌++◌, length, take, drop, refl, sym, ◌∙◌, ap, subst, arith, append_assoc, take-append-drop, length-append, length-take}
+use Rattle.std.proofs.Common.{◌≡◌, ℕ, ◌+◌, ◌≤◌, Bool, true, false, IsTrue, List, [], ◌∷◌, ◌++◌, length, take, drop, refl, sym, ◌∙◌, ap, subst, arith, append_assoc, take-append-drop, length-append, length-take}
 use Rattle.std.proofs.lemmas.List.{append-nil, take_at, drop_at, drop_all, take-take, nil_from_length}
 use Rattle.std.specs.Int.{w64, from_le_bytes}
 use Rattle.envy_device.specs.Device.{Only}
 use Rattle.envy_journal.specs.declared.log.Log.{Log}
 use Rattle.envy_journal.specs.declared.operation.Operation.{Operation}
 use Rattle.envy_journal.specs.Journal.{IsAtRest}
-use Rattle.envy_journal.specs.Log.{Begins, EndsAt, IsBatch, IsCounted, IsLeftOf, held_bytes, log_bytes}
+use Rattle.envy_journal.specs.Log.{Begins, EndsAt, HasRuns, IsBatch, IsCounted, IsLeftOf, held_bytes, kept_bytes, log_bytes}
 use Rattle.envy_journal.specs.Reading.{are_operations, reading, zeros, Leads, Rests}
 use Rattle.envy_journal.proofs.Counting.{no_operations, whole_batch, no_zeros}
 use Rattle.envy_journal.proofs.Mixed.{left_same}
@@ -70,16 +70,18 @@ none_held seen log end used =
     ∙ drop_all (log.gate + 1) (log_bytes seen log) (omega (arith, length-take {A = ℕ}, end))
 
 -- a log that holds nothing, all of whose file is on the disk
-pub counted_none : {D : Type 0} (seen : D → List ℕ) (may_leave : D → List ℕ → Type 0) (bytewise : D → Bool) (log : Log D) → held_bytes seen log ≡ [] → log.zeros ≡ 0 → Only (seen log.device) (may_leave log.device) → IsCounted seen may_leave bytewise log
-counted_none seen may_leave bytewise log none zero only =
+pub counted_none : {D : Type 0} (seen : D → List ℕ) (may_leave : D → List ℕ → Type 0) (bytewise : D → Bool) (log : Log D) → held_bytes seen log ≡ [] → log.zeros ≡ 0 → Only (seen log.device) (may_leave log.device) → log.used ≡ 0 → (IsTrue log.runs → HasRuns (kept_bytes seen log)) → IsCounted seen may_leave bytewise log
+counted_none seen may_leave bytewise log none zero only empty runs =
     let behind = drop (log.gate + 1) (log_bytes seen log) in
     let few : length behind ≡ 0 = omega (arith, ap length none, length-append behind (take log.used log.buffer.items)) in
     record {
       whole = ap (λ (l : List ℕ). are_operations 0 l) none ∙ no_operations;
       left = λ on c may. subst (λ (l : List ℕ). IsLeftOf (seen log.device) l) (sym (only c may)) (left_same (seen log.device));
       count = λ on. zero ∙ sym (no_zeros behind (nil_from_length behind few));
+      latest = λ lt. absurd (omega (arith, lt, empty));
+      runs = runs;
     }
 
 -- as it is once a journal is opened, or put in a file's place
-pub counted_rest : {D : Type 0} (seen : D → List ℕ) (may_leave : D → List ℕ → Type 0) (moment last : D → ℕ) (bytewise : D → Bool) (log : Log D) → IsAtRest seen may_leave moment last log.device log.gate → log.end ≡ log.gate + 1 → log.used ≡ 0 → log.zeros ≡ 0 → IsCounted seen may_leave bytewise log
-counted_rest seen may_leave moment last bytewise log rest end used zero = counted_none seen may_leave bytewise log (none_held seen log end used) zero rest.durable
+pub counted_rest : {D : Type 0} (seen : D → List ℕ) (may_leave : D → List ℕ → Type 0) (moment last : D → ℕ) (bytewise : D → Bool) (log : Log D) → IsAtRest seen may_leave moment last log.device log.gate → log.end ≡ log.gate + 1 → log.used ≡ 0 → log.zeros ≡ 0 → (IsTrue log.runs → HasRuns (kept_bytes seen log)) → IsCounted seen may_leave bytewise log
+counted_rest seen may_leave moment last bytewise log rest end used zero runs = counted_none seen may_leave bytewise log (none_held seen log end used) zero rest.durable used runs

@@ -2,7 +2,7 @@
 use Rattle.std.proofs.Common.{◌≡◌, ◌≢◌, inl, inr, ℕ, zero, suc, ◌+◌, ◌<◌, ◌≤◌, ◌==◌, Bool, true, false, List, [], ◌∷◌, ◌++◌, length, get_or, take, drop, replicate, refl, sym, ◌∙◌, ap, subst, arith, length-take}
 use Rattle.std.proofs.lemmas.Bool.{cases_Bool, cases_eq, cond-true, cond-false, eq-eqb, ne_eqb, false≢true}
 use Rattle.std.proofs.lemmas.List.{take_all, take_more, replicate_more, get_or-replicate}
-use Rattle.envy_journal.specs.Reading.{are_operations, behind_tag, breaks_off, is_open, reading, whole, Rests}
+use Rattle.envy_journal.specs.Reading.{are_operations, behind_tag, breaks_off, is_open, reading, whole, words_in, Rests}
 use Rattle.envy_journal.proofs.Parsed.{breaks_counted, breaks_none, breaks_other, breaks_over, breaks_short, breaks_shut, counted_open, leads_into, nothing, open_less, other_shut, shorter, shut}
 
 -- What breaks off at the end.
@@ -78,11 +78,11 @@ breaks_empty [] none (suc n) = breaks_none true
 breaks_empty (byte ∷ bytes) none n = absurd (omega arith)
 
 no_five : behind_tag 5 ≡ 0
-unfolding behind_tag
+unfolding behind_tag words_in
 no_five = refl
 
 no_seven : behind_tag 7 ≡ 0
-unfolding behind_tag
+unfolding behind_tag words_in
 no_seven = refl
 
 -- and so do operations that no end follows

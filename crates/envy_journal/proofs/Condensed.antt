@@ -11,7 +11,7 @@ use Rattle.envy_base.specs.Map.{words_of}
 use Rattle.envy_base.specs.State.{State, IsBoard, IsPage, ands, ones, row_of}
 use Rattle.envy_journal.specs.Condensed.{IsPart, Remakes}
 use Rattle.envy_journal.specs.Content.{Content, after, blank, changed, content_of, holds}
-use Rattle.envy_journal.specs.Head.{head_bytes}
+use Rattle.envy_journal.specs.Head.{HasHead}
 use Rattle.envy_journal.specs.Journal.{IsLogged, done, held, kept}
 use Rattle.envy_journal.specs.Log.{Begins, IsCounted, IsSound, kept_bytes, held_bytes}
 use Rattle.envy_journal.specs.Reading.{operations, reading, Leads}
@@ -181,7 +181,7 @@ module _ {D : Type 0} (seen : D → List ℕ) (may_leave : D → List ℕ → Ty
             (after_sram s.shape.rows (kept seen new) (blank s.shape) ∙ length-replicate {A = ℕ} (words_of s.shape) 0 ∙ sym board.sram);
         logged = record {
           sound = sound;
-          head = subst (λ (l : List ℕ). Begins (head_bytes s.shape) l) (sym same) is.head;
+          head = subst (λ (l : List ℕ). HasHead s.shape l) (sym same) is.head;
           kept_whole = subst (λ (l : List ℕ). Leads false 33 l (operations l) false) (sym same) is.kept_whole;
           held_whole = subst (λ (p : List Operation). Leads true 0 (held_bytes seen new) p true) (sym no_operation) (subst (λ (l : List ℕ). Leads true 0 l [] true) (sym none) (leads_none true));
           content = sym (ap (λ (p : List Operation). holds s.shape (kept seen new ++ p)) no_operation ∙ ap (λ (p : List Operation). holds s.shape p) (append-nil (kept seen new)));
@@ -216,7 +216,7 @@ module _ {D : Type 0} (seen : D → List ℕ) (may_leave : D → List ℕ → Ty
       let same : is.board.shape ≡ s.shape = is.part.shape in
       record {
         sound = was.sound;
-        head = subst (λ (sh : Shape). Begins (head_bytes sh) (kept_bytes seen log)) same was.head;
+        head = subst (λ (sh : Shape). HasHead sh (kept_bytes seen log)) same was.head;
         kept_whole = was.kept_whole;
         held_whole = was.held_whole;
         content = sym (part_all s is.board board is.part) ∙ was.content ∙ ap (λ (sh : Shape). holds sh (done seen log)) same;

@@ -4,15 +4,15 @@ use Rattle.std.proofs.lemmas.Bool.{cases_eq, cases_Bool, cond-true, cond-false, 
 use Rattle.std.proofs.lemmas.List.{take_all, take_more, take-append-le}
 use Rattle.std.specs.Int.{w64, from_le_bytes}
 use Rattle.envy_journal.specs.Log.{Begins, IsLeftOf}
-use Rattle.envy_journal.specs.Reading.{are_operations, behind_tag, whole, zero_in, zeros}
+use Rattle.envy_journal.specs.Reading.{are_operations, behind_tag, whole, words_in, zero_in, zeros}
 
 -- no operation begins with a mark or a zero
 pub not_mark : (tag : ℕ) → behind_tag tag ≢ 0 → tag ≢ 7
-unfolding behind_tag
+unfolding behind_tag words_in
 not_mark tag some is = some (ap behind_tag is)
 
 not_zero : (tag : ℕ) → behind_tag tag ≢ 0 → tag ≢ 0
-unfolding behind_tag
+unfolding behind_tag words_in
 not_zero tag some is = some (ap behind_tag is)
 
 pub zero_in_zero : (byte : ℕ) → byte ≡ 0 → zero_in byte ≡ 1
@@ -52,12 +52,12 @@ unfolding whole
 whole_none n tag rest ne none = cond-false (tag == 7) _ _ (ne_eqb tag 7 ne) ∙ cond-true (behind_tag tag == 0) false (whole n (behind_tag tag) rest) (eq-eqb (behind_tag tag) 0 none)
 
 whole_zero : (n : ℕ) (rest : List ℕ) → whole n 0 (0 ∷ rest) ≡ false
-unfolding whole behind_tag
+unfolding whole behind_tag words_in
 whole_zero n rest = refl
 
 -- the end of a batch that wasn't counted is none of one that was
 pub whole_stop : (n : ℕ) (rest : List ℕ) → whole n 0 (5 ∷ rest) ≡ false
-unfolding whole behind_tag
+unfolding whole behind_tag words_in
 whole_stop n rest = refl
 
 pub whole_empty : (n skip : ℕ) → whole n skip [] ≡ false

@@ -5,7 +5,7 @@ use Rattle.envy_device.specs.Device.{Cut, Elapses, Follows, LeavesOnly, Only}
 use Rattle.envy_journal.specs.Condensed.{StaysKept}
 use Rattle.envy_journal.specs.Held.{most_held}
 use Rattle.envy_journal.specs.declared.log.Log.{Log}
-use Rattle.envy_journal.specs.Log.{Begins, IsCounted, IsSound, IsTied, kept_bytes, held_bytes}
+use Rattle.envy_journal.specs.Log.{Begins, HasRuns, IsCounted, IsSound, IsTied, kept_bytes, held_bytes}
 use Rattle.envy_journal.proofs.Batches.{counted_none, none_held}
 use Rattle.envy_journal.proofs.Moments.{goes_on, joined, started}
 use Rattle.envy_journal.proofs.Spilled.{kept_length}
@@ -120,5 +120,7 @@ module _ {D : Type 0} (seen : D → List ℕ) (may_leave : D → List ℕ → Ty
                 room = omega (arith, s.room);
               }
 
-          pub counted_synced : (bytewise : D → Bool) → IsCounted seen may_leave bytewise new
-          counted_synced bytewise = counted_none seen may_leave bytewise new none_synced refl (λ c left. only c left ∙ sym file)
+          pub counted_synced : (bytewise : D → Bool) → IsCounted seen may_leave bytewise log → IsCounted seen may_leave bytewise new
+          counted_synced bytewise k =
+              counted_none seen may_leave bytewise new none_synced refl (λ c left. only c left ∙ sym file) refl
+              (λ may. let stays = stays_synced in subst (λ (l : List ℕ). HasRuns l) (sym stays.kept) (k.runs may))

@@ -1,11 +1,12 @@
 -- What stands at the front of a batch that was counted.
-use Rattle.std.proofs.Common.{◌≡◌, ◌≢◌, inl, inr, ℕ, zero, suc, ◌+◌, ◌<◌, ◌≤◌, ◌==◌, nat_lt, true, false, List, [], ◌∷◌, length, get_or, take, drop, refl, sym, ◌∙◌, ap, arith, length-take, take-append-drop}
+use Rattle.std.proofs.Common.{◌≡◌, ◌≢◌, inl, inr, ℕ, zero, suc, ◌+◌, ◌*◌, ◌<◌, ◌≤◌, ◌==◌, nat_lt, true, false, List, [], ◌∷◌, length, get_or, take, drop, refl, sym, ◌∙◌, ap, arith, length-take, take-append-drop}
 use Rattle.std.proofs.lemmas.Bool.{cases_eq, cond-false, le-ltb, ne_eqb}
 use Rattle.std.proofs.lemmas.List.{take-take, drop-drop, drop_more, drop_all}
 use Rattle.std.specs.Int.{w64, from_le_bytes}
-use Rattle.envy_journal.specs.Reading.{are_operations, behind_tag, whole, zero_in, zeros}
+use Rattle.envy_journal.specs.Reading.{are_operations, behind_tag, whole, words_in, zero_in, zeros}
 use Rattle.envy_journal.proofs.Counting.{mark_right, mark_short, mark_whole, one_operation, operations_over, whole_empty, whole_none, whole_operations, whole_stop, whole_tag}
 use Rattle.envy_journal.proofs.Parsed.{part_length, tagged}
+use Rattle.envy_journal.proofs.Words.{behind_erase, behind_other, behind_program, behind_words}
 
 -- too few bytes of an operation
 pub whole_short : (l : List ℕ) (skip n : ℕ) → length l ≤ skip → whole n skip l ≡ false
@@ -14,42 +15,26 @@ whole_short [] skip n le = whole_empty n skip
 whole_short (byte ∷ l) zero n le = absurd (omega (arith, le))
 whole_short (byte ∷ l) (suc skip) n le = whole_short l skip (zero_in byte + n) (omega (arith, le))
 
-pub behind_put : (tag : ℕ) → tag ≡ 1 → behind_tag tag ≡ 12
-unfolding behind_tag
-behind_put tag is = ap behind_tag is
-
-pub behind_program : (tag : ℕ) → tag ≡ 2 → behind_tag tag ≡ 260
-unfolding behind_tag
-behind_program tag is = ap behind_tag is
-
-pub behind_erase : (tag : ℕ) → tag ≡ 3 → behind_tag tag ≡ 4
-unfolding behind_tag
-behind_erase tag is = ap behind_tag is
-
-pub behind_other : (tag : ℕ) → tag ≢ 1 → tag ≢ 2 → tag ≢ 3 → behind_tag tag ≡ 0
-unfolding behind_tag
-behind_other tag put program erase = cond-false _ 12 _ (ne_eqb tag 1 put) ∙ cond-false _ 260 _ (ne_eqb tag 2 program) ∙ cond-false _ 4 0 (ne_eqb tag 3 erase)
-
-too_short : (tag : ℕ) (rest : List ℕ) → (tag ≡ 1 → length rest < 12) → (tag ≡ 2 → length rest < 260) → (tag ≡ 3 → length rest < 4) → behind_tag tag ≢ 0 → length rest ≤ behind_tag tag
-too_short tag rest put program erase some = elim (cases_eq tag 1) [
-  | inl is ↦ omega (arith, put is, behind_put tag is)
-  | inr one ↦ elim (cases_eq tag 2) [
-    | inl is ↦ omega (arith, program is, behind_program tag is)
-    | inr two ↦ elim (cases_eq tag 3) [
-      | inl is ↦ omega (arith, erase is, behind_erase tag is)
-      | inr three ↦ absurd (some (behind_other tag one two three))
+too_short : (tag : ℕ) (rest : List ℕ) → (words_in tag ≢ 0 → length rest < 4 + 8 * words_in tag) → (tag ≡ 2 → length rest < 260) → (tag ≡ 3 → length rest < 4) → behind_tag tag ≢ 0 → length rest ≤ behind_tag tag
+too_short tag rest words program erase some = elim (cases_eq tag 2) [
+  | inl is ↦ omega (arith, program is, behind_program tag is)
+  | inr two ↦ elim (cases_eq tag 3) [
+    | inl is ↦ omega (arith, erase is, behind_erase tag is)
+    | inr three ↦ elim (cases_eq (words_in tag) 0) [
+      | inl none ↦ absurd (some (behind_other tag none two three))
+      | inr any ↦ omega (arith, words any, behind_words tag any)
     ]
   ]
 ]
 
-pub too_few : (tag n : ℕ) → (tag ≡ 1 → n < 13) → (tag ≡ 2 → n < 261) → (tag ≡ 3 → n < 5) → behind_tag tag ≢ 0 → n < behind_tag tag + 1
-too_few tag n put program erase some = elim (cases_eq tag 1) [
-  | inl is ↦ omega (arith, put is, behind_put tag is)
-  | inr one ↦ elim (cases_eq tag 2) [
-    | inl is ↦ omega (arith, program is, behind_program tag is)
-    | inr two ↦ elim (cases_eq tag 3) [
-      | inl is ↦ omega (arith, erase is, behind_erase tag is)
-      | inr three ↦ absurd (some (behind_other tag one two three))
+pub too_few : (tag n : ℕ) → (words_in tag ≢ 0 → n < 5 + 8 * words_in tag) → (tag ≡ 2 → n < 261) → (tag ≡ 3 → n < 5) → behind_tag tag ≢ 0 → n < behind_tag tag + 1
+too_few tag n words program erase some = elim (cases_eq tag 2) [
+  | inl is ↦ omega (arith, program is, behind_program tag is)
+  | inr two ↦ elim (cases_eq tag 3) [
+    | inl is ↦ omega (arith, erase is, behind_erase tag is)
+    | inr three ↦ elim (cases_eq (words_in tag) 0) [
+      | inl none ↦ absurd (some (behind_other tag none two three))
+      | inr any ↦ omega (arith, words any, behind_words tag any)
     ]
   ]
 ]
@@ -64,17 +49,17 @@ not_counted [] is n = whole_empty n 0
 not_counted (tag ∷ rest) is n = ap (λ (t : ℕ). whole n 0 (t ∷ rest)) is ∙ whole_stop n rest
 
 -- where nothing more is read of a batch, it isn't whole
-pub ends_counts : (bytes : List ℕ) → (get_or bytes 0 0 ≡ 7 → length bytes < 9) → (get_or bytes 0 0 ≡ 1 → length bytes < 13) → (get_or bytes 0 0 ≡ 2 → length bytes < 261) → (get_or bytes 0 0 ≡ 3 → length bytes < 5)
+pub ends_counts : (bytes : List ℕ) → (get_or bytes 0 0 ≡ 7 → length bytes < 9) → (words_in (get_or bytes 0 0) ≢ 0 → length bytes < 5 + 8 * words_in (get_or bytes 0 0)) → (get_or bytes 0 0 ≡ 2 → length bytes < 261) → (get_or bytes 0 0 ≡ 3 → length bytes < 5)
     → (n : ℕ) → whole n 0 bytes ≡ false
-ends_counts [] total put program erase n = whole_empty n 0
-ends_counts (tag ∷ rest) total put program erase n = elim (cases_eq tag 7) [
+ends_counts [] total words program erase n = whole_empty n 0
+ends_counts (tag ∷ rest) total words program erase n = elim (cases_eq tag 7) [
   | inl seven ↦ let lt : suc (length rest) < 9 = total seven in ap (λ (t : ℕ). whole n 0 (t ∷ rest)) seven ∙ mark_short n rest (omega arith)
   | inr ne ↦ elim (cases_eq (behind_tag tag) 0) [
     | inl none ↦ whole_none n tag rest ne none
     | inr some ↦
         whole_tag n tag rest some
         ∙ whole_short rest (behind_tag tag) n
-        (too_short tag rest (λ is. let lt : suc (length rest) < 13 = put is in omega arith) (λ is. let lt : suc (length rest) < 261 = program is in omega arith)
+        (too_short tag rest (λ any. let lt : suc (length rest) < 5 + 8 * words_in tag = words any in omega arith) (λ is. let lt : suc (length rest) < 261 = program is in omega arith)
         (λ is. let lt : suc (length rest) < 5 = erase is in omega arith) some)
   ]
 ]
@@ -94,8 +79,11 @@ module _ (bytes : List ℕ) where
       ap (λ (l : List ℕ). are_operations 0 l) (tagged k bytes tag (omega (arith, long)) is)
       ∙ one_operation tag (take k (drop 1 bytes)) (λ none. omega (arith, none, behind, some)) (part_length k bytes long ∙ sym behind)
 
-  pub put_counts : 13 ≤ length bytes → get_or bytes 0 0 ≡ 1 → are_operations 0 (take 13 bytes) ≡ true
-  put_counts long is = tag_counts 1 12 (omega (arith, long)) is (behind_put 1 refl) (omega arith)
+  pub run_counts : (n : ℕ) → 5 + 8 * n ≤ length bytes → words_in (get_or bytes 0 0) ≡ n → n ≢ 0 → are_operations 0 (take (5 + 8 * n) bytes) ≡ true
+  run_counts n long is some =
+      let tag = get_or bytes 0 0 in
+      let behind : behind_tag tag ≡ 4 + 8 * n = behind_words tag (λ none. some (sym is ∙ none)) ∙ ap (λ (k : ℕ). 4 + 8 * k) is in
+      ap (λ (k : ℕ). are_operations 0 (take k bytes)) {x = 5 + 8 * n} {y = suc (4 + 8 * n)} (omega arith) ∙ tag_counts tag (4 + 8 * n) (omega (arith, long)) refl behind (omega arith)
 
   pub program_counts : 261 ≤ length bytes → get_or bytes 0 0 ≡ 2 → are_operations 0 (take 261 bytes) ≡ true
   program_counts long is = tag_counts 2 260 (omega (arith, long)) is (behind_program 2 refl) (omega arith)

@@ -9,11 +9,12 @@ use Rattle.envy_journal.specs.Held.{most_held}
 use Rattle.envy_journal.specs.Content.{Content, blank, changed, content_of, holds}
 use Rattle.envy_journal.specs.Head.{head_bytes}
 use Rattle.envy_journal.specs.Journal.{IsFileOf}
-use Rattle.envy_journal.specs.Log.{Begins}
+use Rattle.envy_journal.specs.Log.{Begins, HasRuns}
 use Rattle.envy_journal.specs.Reading.{operations, Leads}
 use Rattle.envy_journal.specs.Snapshot.{Gathers, Makes, gathered}
+use Rattle.envy_journal.specs.Version.{version}
 use Rattle.envy_journal.proofs.Batches.{closed_ends}
-use Rattle.envy_journal.proofs.Logged.{begins_front, ends_gate}
+use Rattle.envy_journal.proofs.Logged.{begins_front, ends_gate, head_known, runs_of}
 use Rattle.envy_journal.proofs.Broken.{rests_shut}
 use Rattle.envy_journal.proofs.Parsed.{leads_over, leads_open, leads_close, leads_both, leads_to, unbroken_at, unbroken_on}
 use Rattle.envy_journal.proofs.Replayed.{after-append}
@@ -41,9 +42,9 @@ module _ {D : Type 0} (second : D → List ℕ) (log : Log D) (is : Gathers seco
     spilled_gathers fits few = record { fits = omega arith; room = is.room; end = ap length spilled_file ∙ gathered_length }
 
 -- a head and an open gate
-pub makes_front : (sh : Shape) (file : List ℕ) → file ≡ head_bytes sh ++ 4 ∷ [] → Makes sh (blank sh) 34 file
+pub makes_front : (sh : Shape) (file : List ℕ) → file ≡ head_bytes version sh ++ 4 ∷ [] → Makes sh (blank sh) 34 file
 makes_front sh file is =
-    let h = head_bytes sh in
+    let h = head_bytes version sh in
     let leads : Leads false 33 file [] true = subst (λ (l : List ℕ). Leads false 33 l [] true) (sym is) (leads_both false false true 33 h (4 ∷ []) [] [] (leads_over false 33 h refl) leads_open) in
     let none : operations file ≡ [] = leads_to false true 33 file [] leads in
     record {
@@ -67,7 +68,7 @@ module _ (sh : Shape) (x : Content) (most : ℕ) (bytes : List ℕ) (is : Makes 
       let all : Leads false 33 (bytes ++ piece) (operations bytes ++ o ∷ []) true = leads_both false true true 33 bytes piece (operations bytes) (o ∷ []) is.whole leads in
       let reads : operations (bytes ++ piece) ≡ operations bytes ++ o ∷ [] = leads_to false true 33 (bytes ++ piece) (operations bytes ++ o ∷ []) all in
       record {
-        head = begins_front (head_bytes sh) bytes piece (bytes ++ piece) is.head (let e = take_at (bytes ++ piece) [] (length (bytes ++ piece)) refl in ap (λ (l : List ℕ). take (length (bytes ++ piece)) l) (sym (append-nil (bytes ++ piece))) ∙ e);
+        head = begins_front (head_bytes version sh) bytes piece (bytes ++ piece) is.head (let e = take_at (bytes ++ piece) [] (length (bytes ++ piece)) refl in ap (λ (l : List ℕ). take (length (bytes ++ piece)) l) (sym (append-nil (bytes ++ piece))) ∙ e);
         whole = subst (λ (p : List Operation). Leads false 33 (bytes ++ piece) p true) (sym reads) all;
         content =
             ap (λ (p : List Operation). holds sh p) reads
@@ -105,14 +106,14 @@ module _ (s : State) (most : ℕ) (bytes file : List ℕ) (is : Makes s.shape (c
   begins_self : (l : List ℕ) → Begins l l
   begins_self l = ap (λ (m : List ℕ). take (length l) m) (sym (append-nil l)) ∙ take_at l [] (length l) refl
 
-  kept_head : Begins (head_bytes s.shape) kept
+  kept_head : Begins (head_bytes version s.shape) kept
   unfolding kept
-  kept_head = begins_front (head_bytes s.shape) bytes (5 ∷ []) (bytes ++ 5 ∷ []) is.head (begins_self (bytes ++ 5 ∷ []))
+  kept_head = begins_front (head_bytes version s.shape) bytes (5 ∷ []) (bytes ++ 5 ∷ []) is.head (begins_self (bytes ++ 5 ∷ []))
 
   -- it is a journal of the board
   pub replaced_file : IsFileOf s file
   replaced_file = record {
-    head = begins_front (head_bytes s.shape) bytes (5 ∷ 0 ∷ []) file is.head (subst (λ (l : List ℕ). Begins l file) whole (begins_self file));
+    head = head_known s.shape version file refl (begins_front (head_bytes version s.shape) bytes (5 ∷ 0 ∷ []) file is.head (subst (λ (l : List ℕ). Begins l file) whole (begins_self file)));
     content =
         sym is.content
         ∙ ap (λ (p : List Operation). holds s.shape p)
@@ -122,9 +123,13 @@ module _ (s : State) (most : ℕ) (bytes file : List ℕ) (is : Makes s.shape (c
 
   -- behind a replacement what lies before the gate is the new file,
   pub replaced_kept : IsFileOf s (take (length bytes + 1) file)
-  replaced_kept = subst (λ (l : List ℕ). IsFileOf s l) (sym front) (record { head = kept_head; content = sym is.content ∙ ap (λ (p : List Operation). holds s.shape p) (sym kept_reads); ends = unbroken_at kept (operations bytes) kept_leads })
+  replaced_kept = subst (λ (l : List ℕ). IsFileOf s l) (sym front) (record { head = head_known s.shape version kept refl kept_head; content = sym is.content ∙ ap (λ (p : List Operation). holds s.shape p) (sym kept_reads); ends = unbroken_at kept (operations bytes) kept_leads })
 
-  -- which is read to its end,
+  -- may have runs,
+  pub replaced_runs : HasRuns (take (length bytes + 1) file)
+  replaced_runs = subst (λ (l : List ℕ). HasRuns l) (sym front) (runs_of s.shape kept kept_head)
+
+  -- is read to its end,
   pub replaced_leads : Leads false 33 (take (length bytes + 1) file) (operations (take (length bytes + 1) file)) false
   replaced_leads = subst (λ (l : List ℕ). Leads false 33 l (operations l) false) (sym front) (subst (λ (p : List Operation). Leads false 33 kept p false) (sym kept_reads) kept_leads)
 

@@ -1,22 +1,22 @@
 -- The head of a journal, piece by piece.
-use Rattle.std.proofs.Common.{◌≡◌, ℕ, ◌+◌, ◌<◌, ◌≤◌, List, [], ◌∷◌, ◌++◌, length, get_or, take, drop, sym, ◌∙◌, ap, subst, arith, inl, inr, length-take, length-drop}
+use Rattle.std.proofs.Common.{◌≡◌, true, ℕ, ◌+◌, ◌<◌, ◌≤◌, List, [], ◌∷◌, ◌++◌, length, get_or, take, drop, sym, ◌∙◌, ap, subst, arith, inl, inr, length-take, length-drop}
 use Rattle.std.proofs.lemmas.Bool.{cases_lt}
 use Rattle.std.proofs.lemmas.List.{take_all, drop_more, get_or-take, get_or-drop, get_or_past}
 use Rattle.std.proofs.lemmas.Nat.{le_bytes_4}
 use Rattle.std.proofs.Math.Seq.{take-add}
 use Rattle.std.specs.Int.{w32, from_le_bytes}
 use Rattle.envy_base.specs.declared.shape.Shape.{Shape}
-use Rattle.envy_journal.specs.Head.{head_bytes, mark, version}
-use Rattle.envy_journal.specs.Log.{Begins}
+use Rattle.envy_journal.specs.Head.{HasHead, head_bytes}
+use Rattle.envy_journal.specs.Version.{mark, version, older_version, is_known}
 use Rattle.envy_journal.specs.Reading.{number_bytes}
 
 -- a head is a mark, a version and six numbers
-pub pieces : (sh : Shape) (named versioned a b c d e f : List ℕ) → named ≡ mark → versioned ≡ named ++ version ∷ []
+pub pieces : (v : ℕ) (sh : Shape) (named versioned a b c d e f : List ℕ) → named ≡ mark → versioned ≡ named ++ v ∷ []
     → a ≡ versioned ++ number_bytes sh.segments → b ≡ a ++ number_bytes sh.rows → c ≡ b ++ number_bytes sh.pages
-    → d ≡ c ++ number_bytes sh.shadows → e ≡ d ++ number_bytes sh.frames → f ≡ e ++ number_bytes sh.entries → f ≡ head_bytes sh
-pieces sh named versioned a b c d e f is_named is_versioned is_a is_b is_c is_d is_e is_f =
-    let with_version : versioned ≡ mark ++ version ∷ [] = is_versioned ∙ ap (λ (l : List ℕ). l ++ version ∷ []) is_named in
-    let with_a : a ≡ (mark ++ version ∷ []) ++ number_bytes sh.segments = is_a ∙ ap (λ (l : List ℕ). l ++ number_bytes sh.segments) with_version in
+    → d ≡ c ++ number_bytes sh.shadows → e ≡ d ++ number_bytes sh.frames → f ≡ e ++ number_bytes sh.entries → f ≡ head_bytes v sh
+pieces v sh named versioned a b c d e f is_named is_versioned is_a is_b is_c is_d is_e is_f =
+    let with_version : versioned ≡ mark ++ v ∷ [] = is_versioned ∙ ap (λ (l : List ℕ). l ++ v ∷ []) is_named in
+    let with_a : a ≡ (mark ++ v ∷ []) ++ number_bytes sh.segments = is_a ∙ ap (λ (l : List ℕ). l ++ number_bytes sh.segments) with_version in
     let with_b = is_b ∙ ap (λ (l : List ℕ). l ++ number_bytes sh.rows) with_a in
     let with_c = is_c ∙ ap (λ (l : List ℕ). l ++ number_bytes sh.pages) with_b in
     let with_d = is_d ∙ ap (λ (l : List ℕ). l ++ number_bytes sh.shadows) with_c in
@@ -44,14 +44,19 @@ module _ (bytes : List ℕ) where
         let long : length (take 4 (drop at bytes)) ≡ 4 = omega (arith, length-take {A = ℕ}, length-drop at bytes) in
         take-add at 4 bytes ∙ ap (λ (l : List ℕ). take at bytes ++ l) (sym (le_bytes_4 (take 4 (drop at bytes)) n long (small_part at) is))
 
--- a file that begins with a head is at least as long
-pub long_head : (sh : Shape) (bytes : List ℕ) → Begins (head_bytes sh) bytes → 33 ≤ length bytes
-long_head sh bytes head =
-    let long : length (take 33 bytes) ≡ 33 = ap length head in
-    omega (arith, long, length-take {A = ℕ})
-
 -- a head that was copied to the front, and a gate behind it
 pub gated : (head piece first second : List ℕ) (gate : ℕ) → length head ≡ 33 → piece ≡ head → take (0 + length piece) first ≡ piece → take 34 second ≡ take 33 first ++ gate ∷ [] → length second ≡ 34 → second ≡ head ++ gate ∷ []
 gated head piece first second gate long is copied closed room =
     let all : 33 ≡ 0 + length piece = omega (arith, ap length is, long) in
     sym (take_all 34 second (omega arith)) ∙ closed ∙ ap (λ (l : List ℕ). l ++ gate ∷ []) (ap (λ (n : ℕ). take n first) all ∙ copied ∙ is)
+
+-- versions that are known
+pub version_known : (v : ℕ) → v ≡ version → is_known v ≡ true
+version_known v is = ap is_known is
+
+pub older_known : (v : ℕ) → v ≡ older_version → is_known v ≡ true
+older_known v is = ap is_known is
+
+-- a head that was read
+pub head_here : (sh : Shape) (v : ℕ) (bytes : List ℕ) → v ≡ get_or bytes 8 0 → is_known v ≡ true → take 33 bytes ≡ head_bytes v sh → HasHead sh bytes
+head_here sh v bytes is known begins = record { known = ap is_known (sym is) ∙ known; begins = begins ∙ ap (λ (n : ℕ). head_bytes n sh) is }

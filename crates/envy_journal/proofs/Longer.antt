@@ -3,7 +3,7 @@ use Rattle.std.proofs.Common.{◌≡◌, ℕ, ◌+◌, ◌-◌, ◌≤◌, Bool,
 use Rattle.std.proofs.lemmas.List.{replicate-append-replicate, take-take, drop-append-le, get_or_past}
 use Rattle.envy_device.specs.Device.{Holds, LeavesOnly, Mixed, Torn, Follows, Elapses}
 use Rattle.envy_journal.specs.declared.log.Log.{Log}
-use Rattle.envy_journal.specs.Log.{Begins, IsCounted, IsLonger, IsSound, IsTied, kept_bytes, held_bytes, log_bytes}
+use Rattle.envy_journal.specs.Log.{Begins, HasRuns, IsCounted, IsLonger, IsSound, IsTied, kept_bytes, held_bytes, log_bytes}
 use Rattle.envy_journal.specs.Reading.{are_operations, zeros as zeros_of}
 use Rattle.envy_journal.proofs.Bytes.{front_follows, front_same, written_behind}
 use Rattle.envy_journal.proofs.Mixed.{left_mixed}
@@ -37,6 +37,8 @@ module _ {D : Type 0} (seen : D → List ℕ) (may_leave : D → List ℕ → Ty
     used = refl;
     buffer = refl;
     zeros = refl;
+    latest = refl;
+    runs = refl;
     front = refl;
     within = inside seen may_leave left_since last log s;
     premise = refl;
@@ -53,6 +55,8 @@ module _ {D : Type 0} (seen : D → List ℕ) (may_leave : D → List ℕ → Ty
     used = second.used ∙ first.used;
     buffer = second.buffer ∙ first.buffer;
     zeros = second.zeros ∙ first.zeros;
+    latest = second.latest ∙ first.latest;
+    runs = second.runs ∙ first.runs;
     front = second.front ∙ first.front;
     within = omega (arith, second.within, first.end);
     premise = second.premise ∙ first.premise;
@@ -70,7 +74,7 @@ module _ {D : Type 0} (seen : D → List ℕ) (may_leave : D → List ℕ → Ty
     f_long = omega (arith, front_length seen may_leave left_since last log s, s.end)
 
     -- a write at the end of the file, done or torn
-    module _ (new : Log D) (n : ℕ) (gate : new.gate ≡ log.gate) (end : new.end ≡ log.end) (used : new.used ≡ log.used) (buffer : new.buffer.items ≡ log.buffer.items) (zeros : new.zeros ≡ log.zeros)
+    module _ (new : Log D) (n : ℕ) (gate : new.gate ≡ log.gate) (end : new.end ≡ log.end) (used : new.used ≡ log.used) (buffer : new.buffer.items ≡ log.buffer.items) (zeros : new.zeros ≡ log.zeros) (latest : new.latest ≡ log.latest) (runs : new.runs ≡ log.runs)
         (torn : Torn log.size n (seen log.device) (seen new.device)) (crash : Follows (Torn log.size n) (may_leave log.device) (may_leave new.device))
         (time : Elapses (moment log.device) (moment new.device) (left_since log.device) (left_since new.device) (may_leave new.device)) (was : last new.device ≡ last log.device) (before : last log.device ≤ moment log.device)
         (only_now : (c : List ℕ) → left_since log.device (moment log.device) c → may_leave log.device c) (how : bytewise new.device ≡ bytewise log.device) (often : syncs new.device ≡ syncs log.device) where
@@ -104,6 +108,8 @@ module _ {D : Type 0} (seen : D → List ℕ) (may_leave : D → List ℕ → Ty
         used = used;
         buffer = buffer;
         zeros = zeros;
+        latest = latest;
+        runs = runs;
         front = front_stays;
         within = omega (arith, torn.no_shorter, inside seen may_leave left_since last log s);
         premise = how;
@@ -148,4 +154,11 @@ module _ {D : Type 0} (seen : D → List ℕ) (may_leave : D → List ℕ → Ty
               ∙ k.count (sym how ∙ on)
               ∙ ap (λ (l : List ℕ). zeros_of (drop (log.gate + 1) l)) (sym front_stays)
               ∙ ap (λ (k : ℕ). zeros_of (drop (k + 1) (log_bytes seen new))) (sym gate);
+          latest = λ lt.
+              ap (λ (n : ℕ). are_operations 0 (drop (n + 1) (log_bytes seen new) ++ take new.latest new.buffer.items)) gate
+              ∙ ap (λ (l : List ℕ). are_operations 0 (drop (log.gate + 1) l ++ take new.latest new.buffer.items)) front_stays
+              ∙ ap (λ (n : ℕ). are_operations 0 (drop (log.gate + 1) (log_bytes seen log) ++ take n new.buffer.items)) latest
+              ∙ ap (λ (l : List ℕ). are_operations 0 (drop (log.gate + 1) (log_bytes seen log) ++ take log.latest l)) buffer
+              ∙ k.latest (omega (arith, lt, latest, used));
+          runs = λ may. subst (λ (l : List ℕ). HasRuns l) (sym kept_stays) (k.runs (sym runs ∙ may));
         }

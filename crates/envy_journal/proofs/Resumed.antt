@@ -6,9 +6,9 @@ use Rattle.envy_device.specs.Device.{LeavesOnly}
 use Rattle.envy_journal.specs.declared.log.Log.{Log}
 use Rattle.envy_journal.specs.declared.operation.Operation.{Operation}
 use Rattle.envy_journal.specs.Content.{holds}
-use Rattle.envy_journal.specs.Head.{StandsFor, head_bytes}
+use Rattle.envy_journal.specs.Head.{HasHead, StandsFor}
 use Rattle.envy_journal.specs.Journal.{IsAllKept, IsFileOf, IsLogged, done, held, kept}
-use Rattle.envy_journal.specs.Log.{Begins, IsCounted, IsLeftOf, IsSound, kept_bytes, held_bytes, log_bytes}
+use Rattle.envy_journal.specs.Log.{Begins, HasRuns, IsCounted, IsLeftOf, IsSound, kept_bytes, held_bytes, log_bytes}
 use Rattle.envy_journal.specs.Reading.{are_operations, operations, reading, zeros, Leads}
 use Rattle.envy_journal.specs.Snapshot.{IsAside, IsUntouched}
 use Rattle.envy_journal.proofs.Logged.{crash_kept}
@@ -31,7 +31,7 @@ module _ {D : Type 0} (seen : D → List ℕ) (may_leave : D → List ℕ → Ty
     pub logged_same : (s : State) → IsLogged seen may_leave left_since last log s → IsSound seen may_leave left_since last new → length new.buffer.items ≡ length log.buffer.items → IsLogged seen may_leave left_since last new s
     logged_same s is sound room = record {
       sound = sound;
-      head = subst (λ (l : List ℕ). Begins (head_bytes s.shape) l) (sym same) is.head;
+      head = subst (λ (l : List ℕ). HasHead s.shape l) (sym same) is.head;
       kept_whole = subst (λ (l : List ℕ). Leads false 33 l (operations l) false) (sym same) is.kept_whole;
       held_whole = subst (λ (l : List ℕ). Leads true 0 l (reading true 0 l) true) (sym also) is.held_whole;
       content = is.content ∙ ap (λ (p : List Operation). holds s.shape p) (sym done_same);
@@ -83,6 +83,8 @@ module _ {D : Type 0} (seen : D → List ℕ) (may_leave : D → List ℕ → Ty
           ∙ k.count (sym quiet.trusted ∙ on)
           ∙ ap (λ (l : List ℕ). zeros (drop (log.gate + 1) l)) (sym log_same)
           ∙ ap (λ (n : ℕ). zeros (drop (n + 1) (log_bytes seen new))) (sym aside.gate);
+      latest = λ lt. absurd (omega (arith, lt, empty));
+      runs = λ may. subst (λ (l : List ℕ). HasRuns l) (sym aside_kept) (k.runs (sym aside.runs ∙ may));
     }
 
   module _ (moment : D → ℕ) where

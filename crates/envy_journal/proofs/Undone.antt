@@ -1,5 +1,5 @@
 -- A log of which no operation was met yet.
-use Rattle.std.proofs.Common.{◌≡◌, ◌≢◌, inl, inr, ℕ, ◌+◌, ◌≤◌, Bool, true, false, List, [], ◌∷◌, ◌++◌, length, take, drop, sym, ◌∙◌, ap, subst, arith, length-drop, take-append-drop}
+use Rattle.std.proofs.Common.{◌≡◌, ◌≢◌, inl, inr, ℕ, ◌+◌, ◌≤◌, Bool, true, false, List, [], ◌∷◌, ◌++◌, length, take, drop, sym, ◌∙◌, ap, subst, arith, length-append, length-drop, take-append-drop}
 use Rattle.std.proofs.lemmas.List.{take_all, drop-drop}
 use Rattle.envy_journal.specs.declared.operation.Operation.{Operation}
 use Rattle.envy_journal.specs.declared.replay.Item.TheVariants.{End}
@@ -44,8 +44,10 @@ module _ (bytes : List ℕ) (at : ℕ) (within : Bool) (is : IsBehind bytes at w
   pub behind_batch : (size : ℕ) → within ≡ true → size ≤ length back → Leads true 0 (take size back) [] false → IsBehind bytes (at + size) false
   behind_batch size batch fits leads = record { within_bytes = omega (arith, length-drop at bytes, fits, is.within_bytes); reads = over true false size [] batch leads }
 
-  pub some_done : (operation : Operation) (size : ℕ) → within ≡ true → Leads true 0 (take size back) (operation ∷ []) true → operations bytes ≢ []
-  some_done operation size batch leads none = omega (arith, ap (λ (l : List Operation). length l) (sym (over true true size (operation ∷ []) batch leads) ∙ none))
+  pub some_done : (p : List Operation) (size : ℕ) → length p ≢ 0 → within ≡ true → Leads true 0 (take size back) p true → operations bytes ≢ []
+  some_done p size some batch leads none =
+      let all = sym (over true true size p batch leads) ∙ none in
+      some (omega (arith, ap length all, length-append p (reading true 0 (drop (at + size) bytes))))
 
   pub none_done : Finds within back End → operations bytes ≡ []
   none_done ends = is.reads ∙ subst (λ (l : List ℕ). reading within 0 l ≡ []) (take_all (length back) back (omega arith)) (ends (length back))

@@ -9,6 +9,7 @@ use Rattle.envy_journal.specs.Content.{Content, blank, holds}
 use Rattle.envy_journal.specs.Head.{head_bytes}
 use Rattle.envy_journal.specs.Log.{Begins, batch_more, size_of, step}
 use Rattle.envy_journal.specs.Reading.{operations, Leads}
+use Rattle.envy_journal.specs.Version.{version}
 
 -- so many bytes a snapshot takes at most: a head and a gate, a put of each word, a program of each row, a mark and a gate
 abbrev pub most_of : Shape → ℕ
@@ -37,7 +38,7 @@ with_rows s n = record { flash = take n s.flash ++ drop n (blank s.shape).flash;
 
 -- a journal's head and one open batch, which makes this content in so many bytes at most
 pub record Makes (sh : Shape) (x : Content) (most : ℕ) (bytes : List ℕ) : Type 0 where
-  pub head : Begins (head_bytes sh) bytes
+  pub head : Begins (head_bytes version sh) bytes
   pub whole : Leads false 33 bytes (operations bytes) true
   pub content : holds sh (operations bytes) ≡ x
   pub size : length bytes ≤ most
@@ -71,4 +72,5 @@ pub record IsAside {D : Type 0} (old new : Log D) : Type 0 where
   pub end : new.end ≡ old.end
   pub size : new.size ≡ old.size
   pub zeros : new.zeros ≡ old.zeros
+  pub runs : new.runs ≡ old.runs
   pub room : length new.buffer.items ≡ length old.buffer.items

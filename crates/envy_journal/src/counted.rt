@@ -3,8 +3,8 @@ ghost use Rattle.std.specs.Prelude.{◌≡◌, ◌+◌, ◌<◌, ◌≤◌, ◌+
 ghost use Rattle.envy_journal.specs.Reading.{behind_tag, is_open as leads_in, whole, word_bytes, zeros as zeros_of};
 
 use crate::operation::{
-    CLOSED, COUNTED, ERASE, ERASE_SIZE, OPEN, PROGRAM, PROGRAM_SIZE, PUT, PUT_SIZE, TOTAL,
-    copy_behind, word_at,
+    CLOSED, COUNTED, ERASE, ERASE_SIZE, OPEN, PROGRAM, PROGRAM_SIZE, TOTAL, copy_behind, word_at,
+    words_of_tag,
 };
 
 /// How many bytes the end of a counted batch takes: a mark and a number.
@@ -40,17 +40,16 @@ pub(crate) fn zeros(bytes: &[u8]) -> usize
 /// How many bytes of an operation stand behind its tag; none where no operation begins.
 pub(crate) fn size_behind(tag: u8) -> usize
     ensures value { result ≡ behind_tag tag }
-    ensures few { result ≤ 260 }
+    ensures few { result ≤ 516 }
 {
-    if tag == PUT {
-        PUT_SIZE - 1
-    } else if tag == PROGRAM {
-        PROGRAM_SIZE - 1
-    } else if tag == ERASE {
-        ERASE_SIZE - 1
-    } else {
-        0
+    if tag == PROGRAM {
+        return PROGRAM_SIZE - 1;
     }
+    if tag == ERASE {
+        return ERASE_SIZE - 1;
+    }
+    let words = words_of_tag(tag);
+    if words == 0 { 0 } else { 4 + 8 * words }
 }
 
 /// Whether a counted batch is whole, of which nothing is lost.

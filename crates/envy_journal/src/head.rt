@@ -1,7 +1,7 @@
 // The head of a journal: a mark, a version and the sizes of the board.
 ghost use Rattle.std.specs.Prelude.{◌≡◌, ◌+◌, ◌≤◌, ◌++◌, ◌∷◌, [], length, take, IfOk, IsErrOf};
-ghost use Rattle.envy_journal.specs.Head.{head_bytes, HasNoJournal, HasSixSizes, IsOtherVersion};
-ghost use Rattle.envy_journal.specs.Log.{Begins};
+ghost use Rattle.envy_journal.specs.Head.{head_bytes, HasHead, HasNoJournal, HasSixSizes, IsOtherVersion};
+ghost use Rattle.envy_journal.specs.Version.{version};
 ghost use Rattle.envy_journal.specs.declared.head.HeadError.TheVariants.{NoJournal, OtherVersion};
 
 use crate::operation::{copy_behind, number_at, write_number};
@@ -13,8 +13,12 @@ pub(crate) const HEAD: usize = 33;
 /// What a journal that is made begins with.
 pub(crate) const MARK: [u8; 8] = [1, b'e', b'N', b'V', b'y', b'J', b'N', b'L'];
 
-/// The version of the format. The second has counted batches, which a program of the first would take for what a crash left.
-pub(crate) const VERSION: u8 = 2;
+/// The version of the format. The second has counted batches, which a program of the first would take for what a crash
+/// left, and the fourth runs of puts, which a program of the second would take for damage.
+pub(crate) const VERSION: u8 = 4;
+
+/// The version before it. To a log of that version no run is appended, so that older programs go on reading it.
+pub(crate) const OLDER_VERSION: u8 = 2;
 
 /// Why bytes don't begin as a journal does.
 #[derive(Clone, Copy, Debug, PartialEq, Eq)]
@@ -28,7 +32,7 @@ pub enum HeadError {
 /// The sizes of the board whose journal this is. They may break the rules of a `Shape`: check them. A head alone is a journal
 /// without operations: opening one, cut short, may leave that.
 pub fn read_head(bytes: &[u8]) -> Result<Shape, HeadError>
-    ensures sizes { IfOk result (λ shape. Begins (head_bytes shape) bytes.now) }
+    ensures sizes { IfOk result (λ shape. HasHead shape bytes.now) }
     ensures six { IfOk result (λ shape. HasSixSizes shape) }
     ensures long { IfOk result (λ shape. 33 ≤ length bytes.now) }
     ensures no_journal { IsErrOf result NoJournal → HasNoJournal bytes.now }
@@ -37,7 +41,7 @@ pub fn read_head(bytes: &[u8]) -> Result<Shape, HeadError>
     if bytes.len() < HEAD || bytes[..8] != MARK[..] {
         return Err(HeadError::NoJournal);
     }
-    if bytes[8] != VERSION {
+    if bytes[8] != VERSION && bytes[8] != OLDER_VERSION {
         return Err(HeadError::OtherVersion);
     }
     Ok(Shape {
@@ -54,7 +58,7 @@ pub fn read_head(bytes: &[u8]) -> Result<Shape, HeadError>
 
 // The head of a journal of such a board.
 fn head_of(shape: &Shape) -> [u8; 33]
-    ensures { result ≡ head_bytes shape.now }
+    ensures { result ≡ head_bytes version shape.now }
 {
     let mut bytes = [0; 33];
     copy_behind(&mut bytes, 0, &MARK);
@@ -70,7 +74,7 @@ fn head_of(shape: &Shape) -> [u8; 33]
 
 /// The head of a journal of such a board, and a gate.
 pub(crate) fn with_gate(shape: &Shape, gate: u8) -> [u8; 34]
-    ensures { result ≡ head_bytes shape.now ++ gate ∷ [] }
+    ensures { result ≡ head_bytes version shape.now ++ gate ∷ [] }
 {
     let mut bytes = [gate; 34];
     copy_behind(&mut bytes, 0, &head_of(shape));

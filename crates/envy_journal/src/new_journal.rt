@@ -3,6 +3,7 @@ ghost use Rattle.std.specs.Prelude.{◌≡◌, ◌++◌, ◌∷◌, [], IsTrue, 
 ghost use Rattle.envy_device.specs.declared.device.ReplaceError.TheVariants.{Failed};
 ghost use Rattle.envy_device.specs.Device.{Only, LeavesOnly};
 ghost use Rattle.envy_journal.specs.Head.{IsUnmade, IsNewOrUnmade, head_bytes};
+ghost use Rattle.envy_journal.specs.Version.{version};
 
 use crate::head::with_gate;
 use crate::operation::CLOSED;
@@ -13,7 +14,7 @@ use envy_device::{ReplaceError, Replaceable};
 pub(crate) fn make<D: Replaceable>(device: &mut D, shape: &Shape) -> Result<(), ReplaceError>
     requires durable { Only (D.seen device.old) (D.may_leave device.old) }
     requires unmade { IsUnmade (D.seen device.old) }
-    ensures file { OnOk result (D.seen device.new ≡ head_bytes shape.now ++ 0 ∷ []) }
+    ensures file { OnOk result (D.seen device.new ≡ head_bytes version shape.now ++ 0 ∷ []) }
     ensures durable { OnOk result (Only (D.seen device.new) (D.may_leave device.new)) }
     ensures synced { OnOk result (D.synced device.new ≡ D.moment device.new) }
     ensures failed { IsErrOf result Failed → IsTrue (D.has_failed device.new) }

@@ -5,14 +5,15 @@ ghost use Rattle.envy_base.specs.State.{State};
 ghost use Rattle.envy_device.specs.Device.{Only, LeavesOnly};
 ghost use Rattle.envy_journal.specs.Content.{content_of, blank, holds, HasMisfit, IsWithin};
 ghost use Rattle.envy_journal.specs.Found.{IsDamaged, IsEnd, IsMended, ReadsAlike};
-ghost use Rattle.envy_journal.specs.Head.{StandsFor, IsUnmade, IsNewOrUnmade, head_bytes};
+ghost use Rattle.envy_journal.specs.Head.{HasHead, StandsFor, IsUnmade, IsNewOrUnmade, head_bytes};
 ghost use Rattle.envy_journal.specs.Held.{most_held};
 ghost use Rattle.envy_journal.specs.Journal.{kept, done, IsAtRest};
-ghost use Rattle.envy_journal.specs.Log.{Begins};
+ghost use Rattle.envy_journal.specs.Log.{HasRuns};
 ghost use Rattle.envy_journal.specs.Reading.{operations, IsUnbroken, Leads};
+ghost use Rattle.envy_journal.specs.Version.{version};
 ghost use Rattle.envy_journal.specs.declared.open_error.OpenError.TheVariants.{Memory, Failed, Misfit as OpenMisfit, Damaged};
 
-use crate::head::HEAD;
+use crate::head::{HEAD, VERSION};
 use crate::journaled::Journaled;
 use crate::log::{Log, MOST_HELD, mend};
 use crate::new_journal::make;
@@ -91,7 +92,7 @@ pub fn open_at<B: Steady + Drop, D: Device + Drop>(
     requires bytes { bytes.now ≡ D.seen device }
     // After a restart, what is read is what is on the disk.
     requires durable { Only (D.seen device) (D.may_leave device) }
-    requires head { Begins (head_bytes (B.state board).shape) bytes.now }
+    requires head { HasHead (B.state board).shape bytes.now }
     requires content { content_of (B.state board) ≡ holds (B.state board).shape (operations bytes.now) }
     requires end { IsEnd end bytes.now }
     ensures alive { IfOk result (λ j. (j.dead ≡ false) × (j.in_doubt ≡ false)) }
@@ -114,7 +115,7 @@ pub fn open_at<B: Steady + Drop, D: Device + Drop>(
         Err(_) => return Err((OpenError::Memory, device)),
     };
     match settle(&mut device, bytes, end) {
-        Ok(size) => Ok(begun(board, device, buffer, end, size)),
+        Ok(size) => Ok(begun(board, device, buffer, end, size, bytes[8] == VERSION)),
         Err(DeviceFailed) => Err((OpenError::Failed, device)),
     }
 }
@@ -132,7 +133,7 @@ pub fn open<B: Steady + Drop, D: Device + Drop>(
     // After a restart, what is read is what is on the disk.
     requires durable { Only (D.seen device) (D.may_leave device) }
     requires blank { content_of (B.state board) ≡ blank (B.state board).shape }
-    requires head { Begins (head_bytes (B.state board).shape) bytes.now }
+    requires head { HasHead (B.state board).shape bytes.now }
     ensures alive { IfOk result (λ j. (j.dead ≡ false) × (j.in_doubt ≡ false)) }
     ensures room { IfOk result (λ j. length j.log.buffer.items ≡ max 263 (min room most_held)) }
     // the file is no longer than it was, but for a gate
@@ -181,7 +182,7 @@ pub fn create<B: Steady + Drop, D: Replaceable + Drop>(
     ensures alive { IfOk result (λ j. (j.dead ≡ false) × (j.in_doubt ≡ false)) }
     ensures room { IfOk result (λ j. length j.log.buffer.items ≡ max 263 (min room most_held)) }
     // the file is a head and a closed gate, and no more
-    ensures file { IfOk result (λ j. D.seen j.log.device ≡ head_bytes (B.state board).shape ++ 0 ∷ []) }
+    ensures file { IfOk result (λ j. D.seen j.log.device ≡ head_bytes version (B.state board).shape ++ 0 ∷ []) }
     ensures kept { IfOk result (λ j. kept D.seen j.log ≡ []) }
     ensures done { IfOk result (λ j. done D.seen j.log ≡ []) }
     ensures board { IfOk result (λ j. j.board ≡ board) }
@@ -199,7 +200,7 @@ pub fn create<B: Steady + Drop, D: Replaceable + Drop>(
         Err(_) => return Err((OpenError::Memory, device)),
     };
     match make(&mut device, &board.shape()) {
-        Ok(()) => Ok(begun(board, device, buffer, HEAD, HEAD + 1)),
+        Ok(()) => Ok(begun(board, device, buffer, HEAD, HEAD + 1, true)),
         Err(ReplaceError::Second) => Err((OpenError::Second, device)),
         Err(ReplaceError::Failed) => Err((OpenError::Failed, device)),
     }
@@ -212,15 +213,17 @@ fn begun<B: Steady + Drop, D: Device + Drop>(
     buffer: Vec<u8>,
     gate: usize,
     size: usize,
+    runs: bool,
 ) -> Journaled<B, D>
     requires at_rest { IsAtRest D.seen D.may_leave D.moment D.synced device gate }
     requires size { length (D.seen device) ≡ size }
     requires room { 263 ≤ length buffer.items }
     requires few { length buffer.items ≤ most_held }
-    requires head { Begins (head_bytes (B.state board).shape) (take gate (D.seen device)) }
+    requires head { HasHead (B.state board).shape (take gate (D.seen device)) }
     requires leads { Leads false 33 (take gate (D.seen device)) (operations (take gate (D.seen device))) false }
     requires content { content_of (B.state board)
         ≡ holds (B.state board).shape (operations (take gate (D.seen device))) }
+    requires runs { runs ≡ true → HasRuns (take gate (D.seen device)) }
     ensures alive { (result.dead ≡ false) × (result.in_doubt ≡ false) }
     ensures board { result.board ≡ board }
     ensures device { result.log.device ≡ device }
@@ -236,6 +239,8 @@ fn begun<B: Steady + Drop, D: Device + Drop>(
         end: gate + 1,
         size,
         zeros: 0,
+        latest: 0,
+        runs,
         second: 0,
     };
     Journaled {

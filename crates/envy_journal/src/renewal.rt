@@ -26,6 +26,7 @@ impl<D: Device> Log<D> {
     // there: of a file that is written byte by byte, a crash would else leave bytes that were cut.
     fn forget(&mut self) -> Result<(), SyncError>
         requires sound { IsSound D.seen D.may_leave D.left_since D.synced self.old }
+        requires counted { IsCounted D.seen D.may_leave D.bytewise self.old }
         ensures sound { OnOk result (IsSound D.seen D.may_leave D.left_since D.synced self.new) }
         ensures counted { OnOk result (IsCounted D.seen D.may_leave D.bytewise self.new) }
         ensures none { OnOk result (held_bytes D.seen self.new ≡ []) }
@@ -181,6 +182,7 @@ fn renew<B: Steady, D: Device>(board: &B, log: &mut Log<D>) -> Result<(), SyncEr
 // Makes anew what is held.
 fn condensed<B: Steady, D: Device>(board: &B, log: &mut Log<D>) -> Result<(), SyncError>
     requires logged { IsLogged D.seen D.may_leave D.left_since D.synced log.old (B.state board.now) }
+    requires counted { IsCounted D.seen D.may_leave D.bytewise log.old }
     ensures logged { OnOk result (IsLogged D.seen D.may_leave D.left_since D.synced log.new (B.state board.now)) }
     ensures counted { OnOk result (IsCounted D.seen D.may_leave D.bytewise log.new) }
     ensures short { OnOk result (length (held_bytes D.seen log.new) ≤ limit_of (B.state board.now).shape) }

@@ -123,6 +123,7 @@ impl<D: Replaceable> Log<D> {
         self.end = self.second;
         self.size = self.second;
         self.zeros = 0;
+        self.runs = true;
         Ok(())
     }
 }

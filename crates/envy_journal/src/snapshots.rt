@@ -6,9 +6,8 @@ ghost use Rattle.envy_base.specs.State.{row_of};
 ghost use Rattle.envy_device.specs.Device.{LeavesOnly};
 ghost use Rattle.envy_device.specs.declared.device.ReplaceError.TheVariants.{Second, Failed};
 ghost use Rattle.envy_journal.specs.Content.{blank, content_of, holds};
-ghost use Rattle.envy_journal.specs.Head.{head_bytes};
 ghost use Rattle.envy_journal.specs.Journal.{IsAtRest, IsFileOf};
-ghost use Rattle.envy_journal.specs.Log.{Begins};
+ghost use Rattle.envy_journal.specs.Log.{HasRuns};
 ghost use Rattle.envy_journal.specs.Reading.{operations, Leads};
 ghost use Rattle.envy_journal.specs.Snapshot.{Gathers, Hinders, IsAside, IsUntouched, Makes, gathered, limit_of, most_of, with_rows, with_words};
 
@@ -212,6 +211,7 @@ fn replaced<B: Steady, D: Replaceable>(board: &B, log: &mut Log<D>) -> Result<()
         (Leads false 33 (take log.new.gate (D.seen log.new.device))
         (operations (take log.new.gate (D.seen log.new.device))) false) }
     ensures file { OnOk result (IsFileOf (B.state board.now) (take log.new.gate (D.seen log.new.device))) }
+    ensures runs { OnOk result (HasRuns (take log.new.gate (D.seen log.new.device))) }
     ensures short { OnOk result (length (D.seen log.new.device) ≤ most_of (B.state board.now).shape) }
     ensures room { length log.new.buffer.items ≡ length log.old.buffer.items }
     ensures aside { OnErr result (IsAside log.old log.new) }
@@ -244,6 +244,7 @@ pub(crate) fn rewrite<B: Steady, D: Replaceable>(
         (Leads false 33 (take log.new.gate (D.seen log.new.device))
         (operations (take log.new.gate (D.seen log.new.device))) false) }
     ensures file { OnOk result (IsFileOf (B.state board.now) (take log.new.gate (D.seen log.new.device))) }
+    ensures runs { OnOk result (HasRuns (take log.new.gate (D.seen log.new.device))) }
     ensures short { OnOk result (length (D.seen log.new.device) ≤ most_of (B.state board.now).shape) }
     ensures room { length log.new.buffer.items ≡ length log.old.buffer.items }
     ensures aside { OnErr result (IsAside log.old log.new × (log.new.used ≡ 0)) }

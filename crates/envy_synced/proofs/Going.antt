@@ -13,10 +13,9 @@ use Rattle.envy_device.specs.Device.{LeavesOnly}
 use Rattle.envy_journal.specs.declared.log.Log.{Log}
 use Rattle.envy_journal.specs.declared.operation.Operation.{Operation}
 use Rattle.envy_journal.specs.Content.{content_of, holds}
-use Rattle.envy_journal.specs.Head.{StandsFor, head_bytes}
+use Rattle.envy_journal.specs.Head.{HasHead, StandsFor}
 use Rattle.envy_journal.proofs.Logged.{crash_kept}
 use Rattle.envy_journal.specs.Journal.{IsFileOf, IsLogged, journal_state, kept}
-use Rattle.envy_journal.specs.Log.{Begins}
 use Rattle.envy_journal.specs.Reading.{operations}
 use Rattle.envy_journal.specs.Steady.{IsSteady}
 use Rattle.envy_journal.proofs.Redone.{bads-never}
@@ -162,7 +161,7 @@ module _ {D : Type 0} (seen : D → List ℕ) (moment hindered : D → ℕ) (lef
     module _ (new : Log D) (t : State) (shape : t.shape ≡ s.shape) (content : content_of t ≡ content_of s) (off : t.on ≡ false) where
       all_of : (file : List ℕ) → IsFileOf s file → IsFileOf t file
       all_of file has = record {
-        head = subst (λ (sh : Shape). Begins (head_bytes sh) file) (sym shape) has.head;
+        head = subst (λ (sh : Shape). HasHead sh file) (sym shape) has.head;
         content = content ∙ has.content ∙ ap (λ (sh : Shape). holds sh (operations file)) (sym shape);
         ends = has.ends;
       }

@@ -8,9 +8,9 @@ use Rattle.envy_map.specs.Fields.{Chart, chart, map_fields}
 use Rattle.envy_journal.specs.declared.log.Log.{Log}
 use Rattle.envy_journal.specs.declared.operation.Operation.{Operation}
 use Rattle.envy_journal.specs.Content.{Content, content_of, holds}
-use Rattle.envy_journal.specs.Head.{StandsFor, head_bytes}
+use Rattle.envy_journal.specs.Head.{HasHead, StandsFor}
 use Rattle.envy_journal.specs.Journal.{IsFileOf, kept}
-use Rattle.envy_journal.specs.Log.{Begins, kept_bytes}
+use Rattle.envy_journal.specs.Log.{kept_bytes}
 use Rattle.envy_journal.specs.Reading.{operations}
 use Rattle.envy_journal.specs.Snapshot.{most_of}
 use Rattle.envy_synced.specs.Disk.{CrashLeaves, disk_state, Ends, IsKept, Reopens, IsCompact, IsSynced, IsLast, IsBefore}
@@ -20,7 +20,7 @@ reopens_synced : (was : Chart) (sh : Shape) (bytes file : List ℕ) → IsSynced
 reopens_synced was sh bytes file is shape brought stands =
     let same : operations file ≡ operations was.notes.last.bytes = stands.reads ∙ ap operations brought in
     record {
-      head = subst (λ (x : Shape). Begins (head_bytes x) file) (sym shape) stands.head;
+      head = subst (λ (x : Shape). HasHead x file) (sym shape) stands.head;
       fields = ap (λ (p : List Operation). map_fields was.shape (holds was.shape p).sram) same ∙ is.fields;
       flash = ap (λ (p : List Operation). (holds was.shape p).flash) same ∙ is.flash;
       ends = stands.ends;
@@ -28,7 +28,7 @@ reopens_synced was sh bytes file is shape brought stands =
 
 reopens_now : (s t : State) (file : List ℕ) → IsFileOf s file → t.shape ≡ s.shape → content_of t ≡ content_of s → Reopens (chart t) file
 reopens_now s t file is shape content = record {
-  head = subst (λ (x : Shape). Begins (head_bytes x) file) (sym shape) is.head;
+  head = subst (λ (x : Shape). HasHead x file) (sym shape) is.head;
   fields = subst (λ (x : Shape). map_fields x (holds x (operations file)).sram ≡ map_fields x t.sram) (sym shape) (ap (λ (x : Content). map_fields s.shape x.sram) (sym (content ∙ is.content)));
   flash = subst (λ (x : Shape). (holds x (operations file)).flash ≡ t.flash) (sym shape) (ap (λ (x : Content). x.flash) (sym (content ∙ is.content)));
   ends = is.ends;

@@ -5,9 +5,9 @@ use Rattle.envy_map.specs.Fields.{Chart, map_fields}
 use Rattle.envy_journal.specs.declared.log.Log.{Log}
 use Rattle.envy_journal.specs.declared.operation.Operation.{Operation}
 use Rattle.envy_journal.specs.Content.{holds}
-use Rattle.envy_journal.specs.Head.{StandsFor, head_bytes}
+use Rattle.envy_journal.specs.Head.{HasHead, StandsFor}
 use Rattle.envy_journal.specs.Journal.{IsFileOf, kept}
-use Rattle.envy_journal.specs.Log.{Begins, kept_bytes}
+use Rattle.envy_journal.specs.Log.{kept_bytes}
 use Rattle.envy_journal.specs.Reading.{operations, IsUnbroken}
 use Rattle.envy_journal.specs.Snapshot.{most_of}
 use Rattle.envy_disk.specs.Disk.{with_notes}
@@ -38,7 +38,7 @@ pub record IsKept {D : Type 0} (seen : D → List ℕ) (moment hindered : D → 
 
 -- the file opens as this board: its sizes, its map and its flash
 pub record Reopens (c : Chart) (file : List ℕ) : Type 0 where
-  pub head : Begins (head_bytes c.shape) file
+  pub head : HasHead c.shape file
   pub fields : map_fields c.shape (holds c.shape (operations file)).sram ≡ c.fields
   pub flash : (holds c.shape (operations file)).flash ≡ c.flash
   pub ends : IsUnbroken file

@@ -55,7 +55,12 @@ pub(crate) fn act<B: Board>(rt: &impl Abort, board: &mut B, i: usize) -> bool {
     let shape = board.shape();
     let mut dice = Dice::new((i as u64).wrapping_mul(7919).wrapping_add(1));
     let kind = dice.below(32) / 4;
-    let place = drawn(&mut dice, 150);
+    // half of the words are put in a row
+    let place = if kind < 6 {
+        drawn(&mut dice, 150)
+    } else {
+        u32::try_from(i).unwrap_or(0).saturating_add(60)
+    };
     let word = dice.below(1 << 40) as u64;
     if kind == 0 {
         let segment = place % 4;

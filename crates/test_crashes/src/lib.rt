@@ -8,3 +8,5 @@ mod condensed;
 mod crashes;
 #[cfg(test)]
 mod left;
+#[cfg(test)]
+mod runs;

@@ -1,5 +1,6 @@
 use Rattle.std.proofs.Common.{◌≡◌, ◌⊎◌, ◌∙◌, ◌∷◌, ◌++◌, [], inl, inr, ⊎_elim, ℕ, List, sym, ap, subst}
 use Rattle.envy_journal.specs.Head.{IsNewOrUnmade, StandsFor, head_bytes}
+use Rattle.envy_journal.specs.Version.{version}
 use Rattle.envy_journal.proofs.Moments.{widened}
 use Rattle.envy_journal.proofs.Opened.{made_new}
 use Rattle.envy_journal.proofs.Untouched.{untouched_call, untouched_both, replaced, then_replaced}
@@ -18,7 +19,7 @@ returns-in_err-replace-clause-any_moment g c =
     let b = c.write_second.new.self in
     let d = c.replace.new.self in
     let file = g.D.Replaceable.second b in
-    let is : file ≡ head_bytes sh ++ 0 ∷ [] = c.in_ok-write_second.ensures.written ∙ ap (λ (l : List ℕ). l ++ c.with_gate.result) c.in_ok-begin_second.ensures.begun ∙ c.with_gate.ensures in
+    let is : file ≡ head_bytes version sh ++ 0 ∷ [] = c.in_ok-write_second.ensures.written ∙ ap (λ (l : List ℕ). l ++ c.with_gate.result) c.in_ok-begin_second.ensures.begun ∙ c.with_gate.ensures in
     let quiet = untouched_both D.seen leave moment left D.synced D.bytewise first a b (untouched_call D.seen leave moment left D.synced D.bytewise first a c.begin_second.ensures.seen c.begin_second.ensures.synced c.begin_second.ensures.bytewise (only_now first) c.begin_second.ensures.crash c.begin_second.ensures.time)
     (untouched_call D.seen leave moment left D.synced D.bytewise a b c.write_second.ensures.seen c.write_second.ensures.synced c.write_second.ensures.bytewise (only_now a) c.write_second.ensures.crash c.write_second.ensures.time) in
     widened moment left first d (λ x. leave first x ⊎ StandsFor sh [] x) (IsNewOrUnmade sh)
@@ -39,7 +40,7 @@ returns-clause-any_moment g c =
     let b = c.write_second.new.self in
     let d = c.replace.new.self in
     let file = g.D.Replaceable.second b in
-    let is : file ≡ head_bytes sh ++ 0 ∷ [] = c.in_ok-write_second.ensures.written ∙ ap (λ (l : List ℕ). l ++ c.with_gate.result) c.in_ok-begin_second.ensures.begun ∙ c.with_gate.ensures in
+    let is : file ≡ head_bytes version sh ++ 0 ∷ [] = c.in_ok-write_second.ensures.written ∙ ap (λ (l : List ℕ). l ++ c.with_gate.result) c.in_ok-begin_second.ensures.begun ∙ c.with_gate.ensures in
     let quiet = untouched_both D.seen leave moment left D.synced D.bytewise first a b (untouched_call D.seen leave moment left D.synced D.bytewise first a c.begin_second.ensures.seen c.begin_second.ensures.synced c.begin_second.ensures.bytewise (only_now first) c.begin_second.ensures.crash c.begin_second.ensures.time)
     (untouched_call D.seen leave moment left D.synced D.bytewise a b c.write_second.ensures.seen c.write_second.ensures.synced c.write_second.ensures.bytewise (only_now a) c.write_second.ensures.crash c.write_second.ensures.time) in
     widened moment left first d (λ x. leave first x ⊎ StandsFor sh [] x) (IsNewOrUnmade sh)

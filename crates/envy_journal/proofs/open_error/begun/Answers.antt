@@ -17,13 +17,13 @@ invariant_of-result g c =
     let device = c.args.device in
     let r = c.requires in
     let s = g.B.Board.state c.args.board in
-    let log : Log g.row.D.Denot = record { device = device; buffer = c.args.buffer; used = 0; gate = c.args.gate; end = c.args.gate + 1; size = c.args.size; zeros = 0; second = 0; fits = _; few = _ } in
+    let log : Log g.row.D.Denot = record { device = device; buffer = c.args.buffer; used = 0; gate = c.args.gate; end = c.args.gate + 1; size = c.args.size; zeros = 0; latest = 0; runs = c.args.runs; second = 0; fits = _; few = _ } in
     let is = logged_begun seen leave left moment last log (operations (take c.args.gate (seen device))) r.at_rest refl refl r.leads (g.met.D.Device.only_now device) r.room r.size s r.content r.head in
     record {
       logged = λ alive. is;
       stands = λ sure. stands_tied seen leave left last log s is log s refl refl is.sound.tied;
       ended = λ dead. absurd (false≢true dead);
-      counted = λ alive. counted_rest seen leave moment last g.D.Device.bytewise log r.at_rest refl refl refl;
+      counted = λ alive. counted_rest seen leave moment last g.D.Device.bytewise log r.at_rest refl refl refl r.runs;
     }
 
 pub returns-clause-kept : goal.returns-clause-kept
@@ -34,5 +34,5 @@ returns-clause-done g c =
     let seen = g.D.Device.seen in
     let device = c.args.device in
     let r = c.requires in
-    let log : Log g.row.D.Denot = record { device = device; buffer = c.args.buffer; used = 0; gate = c.args.gate; end = c.args.gate + 1; size = c.args.size; zeros = 0; second = 0; fits = omega arith; few = c.requires.few } in
+    let log : Log g.row.D.Denot = record { device = device; buffer = c.args.buffer; used = 0; gate = c.args.gate; end = c.args.gate + 1; size = c.args.size; zeros = 0; latest = 0; runs = c.args.runs; second = 0; fits = omega arith; few = c.requires.few } in
     done_begun seen g.D.Device.may_leave g.D.Device.left_since g.D.Device.moment g.D.Device.synced log (operations (take c.args.gate (seen device))) r.at_rest refl refl r.leads (g.met.D.Device.only_now device) r.room

@@ -4,7 +4,8 @@ use Rattle.envy_device.specs.Device.{LeavesOnly}
 use Rattle.envy_journal.specs.declared.operation.Operation.{Operation}
 use Rattle.envy_journal.specs.Content.{holds}
 use Rattle.envy_journal.specs.Head.{IsNewOrUnmade, head_bytes}
-use Rattle.envy_journal.proofs.Opened.{made_closed, made_size, made_head, made_leads, made_reads}
+use Rattle.envy_journal.specs.Version.{version}
+use Rattle.envy_journal.proofs.Opened.{made_closed, made_size, made_head, made_leads, made_reads, made_runs}
 use Rattle.envy_journal.proofs.open_error.create.Goals as goal
 
 pub begun-requires-clause-at_rest : goal.begun-requires-clause-at_rest
@@ -18,7 +19,7 @@ pub begun-requires-clause-head : goal.begun-requires-clause-head
 begun-requires-clause-head g c =
     let sh = (g.B.Board.state c.args.board).shape in
     let file = g.D.Device.seen c.make.new.device in
-    made_head sh file (c.in-Ok-make.ensures.file ∙ ap (λ (s : Shape). head_bytes s ++ 0 ∷ []) c.shape.ensures)
+    made_head sh file (c.in-Ok-make.ensures.file ∙ ap (λ (s : Shape). head_bytes version s ++ 0 ∷ []) c.shape.ensures)
 
 pub begun-requires-clause-leads : goal.begun-requires-clause-leads
 begun-requires-clause-leads g c = made_leads c.shape.result (g.D.Device.seen c.make.new.device) c.in-Ok-make.ensures.file
@@ -45,4 +46,7 @@ returns-in-Ok-make-clause-any_moment g c =
 
 pub returns-in-Ok-make-clause-file : goal.returns-in-Ok-make-clause-file
 returns-in-Ok-make-clause-file g c =
-    ap g.D.Device.seen c.begun.ensures.device ∙ c.in-Ok-make.ensures.file ∙ ap (λ (s : Shape). head_bytes s ++ 0 ∷ []) c.shape.ensures
+    ap g.D.Device.seen c.begun.ensures.device ∙ c.in-Ok-make.ensures.file ∙ ap (λ (s : Shape). head_bytes version s ++ 0 ∷ []) c.shape.ensures
+
+pub begun-requires-clause-runs : goal.begun-requires-clause-runs
+begun-requires-clause-runs g c = λ may. made_runs c.shape.result (g.D.Device.seen c.make.new.device) c.in-Ok-make.ensures.file

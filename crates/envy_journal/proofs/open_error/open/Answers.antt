@@ -1,11 +1,11 @@
 use Rattle.std.proofs.Common.{rules, ◌≡◌, ℕ, refl, subst}
 use Rattle.envy_journal.specs.Found.{IsDamaged}
 use Rattle.envy_journal.specs.declared.replay.Unread.TheVariants.{Damaged}
-use Rattle.envy_journal.proofs.Headed.{long_head}
+use Rattle.envy_journal.proofs.Logged.{head_long}
 use Rattle.envy_journal.proofs.open_error.open.Goals as goal
 
 pub replay_file-requires : goal.replay_file-requires
-replay_file-requires g c = long_head (g.B.Board.state c.args.board).shape c.args.bytes.now c.requires.head
+replay_file-requires g c = head_long (g.B.Board.state c.args.board).shape c.args.bytes.now c.requires.head
 
 pub returns-clause-within_err : goal.returns-clause-within_err
 returns-clause-within_err g c = λ other.

@@ -1,12 +1,12 @@
-use Rattle.std.proofs.Common.{◌≡◌, ◌∙◌, ◌≤◌, ◌+◌, ◌-◌, ◌∷◌, [], ◌++◌, false, List, ℕ, length, take, drop, replicate, sym, ap, subst, arith, take-append-drop}
+use Rattle.std.proofs.Common.{rules, ◌≡◌, ◌∙◌, ◌≤◌, ◌+◌, ◌-◌, ◌∷◌, [], ◌++◌, false, true, List, ℕ, length, get_or, take, drop, replicate, sym, ap, subst, arith, take-append-drop}
 use Rattle.envy_device.specs.Device.{LeavesOnly}
 use Rattle.envy_journal.specs.declared.operation.Operation.{Operation}
 use Rattle.envy_journal.specs.Content.{holds}
 use Rattle.envy_journal.specs.Found.{IsEnd}
-use Rattle.envy_journal.specs.Head.{StandsFor, head_bytes}
-use Rattle.envy_journal.specs.Log.{Begins}
+use Rattle.envy_journal.specs.Head.{HasHead, StandsFor}
+use Rattle.envy_journal.specs.Version.{version}
 use Rattle.envy_journal.specs.Reading.{operations}
-use Rattle.envy_journal.proofs.Opened.{mended_reads, mended_leads, mended_head, settled_stands, stands_self, untouched}
+use Rattle.envy_journal.proofs.Opened.{mended_reads, mended_leads, mended_head, mended_runs, settled_stands, stands_self, untouched}
 use Rattle.envy_journal.proofs.open_error.open_at.Goals as goal
 
 pub returns-in-Err-clause-any_moment_err : goal.returns-in-Err-clause-any_moment_err
@@ -22,7 +22,7 @@ begun-requires-clause-head g c =
     let seen = g.D.Device.seen in
     let sh = (g.B.Board.state c.args.board).shape in
     let file = seen c.args.device in
-    mended_head c.args.end c.in-Ok-settle.size file (seen c.settle.new.device) c.in-Ok-settle.ensures.mended (subst (λ (l : List ℕ). IsEnd c.args.end l) c.requires.bytes c.requires.end) sh (subst (λ (l : List ℕ). Begins (head_bytes sh) l) c.requires.bytes c.requires.head)
+    mended_head c.args.end c.in-Ok-settle.size file (seen c.settle.new.device) c.in-Ok-settle.ensures.mended (subst (λ (l : List ℕ). IsEnd c.args.end l) c.requires.bytes c.requires.end) sh (subst (λ (l : List ℕ). HasHead sh l) c.requires.bytes c.requires.head)
 
 pub begun-requires-clause-leads : goal.begun-requires-clause-leads
 begun-requires-clause-leads g c =
@@ -69,3 +69,11 @@ pub begun-requires-clause-at_rest : goal.begun-requires-clause-at_rest
 begun-requires-clause-at_rest g c =
     let is = c.in-Ok-settle.ensures.mended in
     record { within = is.gate; closed = is.closed; durable = c.in-Ok-settle.ensures.durable; synced_now = c.in-Ok-settle.ensures.synced }
+
+pub begun-requires-clause-runs : goal.begun-requires-clause-runs
+begun-requires-clause-runs g c = λ may.
+    let seen = g.D.Device.seen in
+    let sh = (g.B.Board.state c.args.board).shape in
+    let file = seen c.args.device in
+    let says : get_or c.args.bytes.now 8 0 ≡ version = search rules in
+    mended_runs c.args.end c.in-Ok-settle.size file (seen c.settle.new.device) c.in-Ok-settle.ensures.mended (subst (λ (l : List ℕ). IsEnd c.args.end l) c.requires.bytes c.requires.end) (subst (λ (l : List ℕ). get_or l 8 0 ≡ version) c.requires.bytes says) sh (subst (λ (l : List ℕ). HasHead sh l) c.requires.bytes c.requires.head)

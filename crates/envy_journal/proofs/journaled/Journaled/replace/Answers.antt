@@ -18,7 +18,7 @@ invariant_of-self g c =
       logged = λ alive. logged_compacted D.seen D.may_leave D.left_since D.synced j.log s (j.logged c.requires.alive) D.moment new is.rest.0 is.rest.1 is.rest.2 is.leads is.file is.size (g.met.D.Device.only_now new.device) c.rewrite.ensures.room;
       stands = λ sure. stands_compacted D.seen D.may_leave D.left_since D.synced j.log s (j.logged c.requires.alive) D.moment new is.rest.0 is.rest.1 is.rest.2 is.leads is.file is.size (g.met.D.Device.only_now new.device) c.rewrite.ensures.room;
       ended = λ dead. absurd (false≢true (sym c.requires.alive ∙ dead));
-      counted = λ alive. counted_rest D.seen D.may_leave D.moment D.synced D.bytewise new is.rest.0 is.rest.1 is.rest.2 is.rest.3;
+      counted = λ alive. counted_rest D.seen D.may_leave D.moment D.synced D.bytewise new is.rest.0 is.rest.1 is.rest.2 is.rest.3 (λ may. is.runs);
     }
 
 pub invariant_of-self-in-Err-Second : goal.invariant_of-self-in-Err-Second

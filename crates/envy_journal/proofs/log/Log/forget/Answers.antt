@@ -52,4 +52,4 @@ returns-clause-counted g c =
     let cut = c.cut in
     let sync = c.sync in
     counted_synced D.seen D.may_leave D.moment D.left_since D.synced log c.requires.sound (g.met.D.Device.only_now log.device) (g.met.D.Device.synced_before log.device) cut.new.self cut.ensures.crash cut.ensures.time cut.ensures.synced
-    sync.new.self c.in_ok-cut.ensures.cut sync.ensures.seen sync.ensures.crash sync.ensures.time c.in_ok-sync.ensures.durable c.in_ok-sync.ensures.synced (g.met.D.Device.only_now sync.new.self) _ _ D.bytewise
+    sync.new.self c.in_ok-cut.ensures.cut sync.ensures.seen sync.ensures.crash sync.ensures.time c.in_ok-sync.ensures.durable c.in_ok-sync.ensures.synced (g.met.D.Device.only_now sync.new.self) _ _ D.bytewise c.requires.counted

@@ -1,7 +1,8 @@
 use Rattle.std.proofs.Common.{◌≡◌, ◌∙◌, ◌++◌, ◌∷◌, [], List, ℕ, ap, arith, length, replicate, subst, refl, sym}
 use Rattle.envy_device.specs.Device.{LeavesOnly}
-use Rattle.envy_journal.specs.Log.{Begins, kept_bytes}
+use Rattle.envy_journal.specs.Log.{Begins, HasRuns, kept_bytes}
 use Rattle.envy_journal.proofs.Batches.{counted_none}
+use Rattle.envy_journal.proofs.Logged.{runs_more}
 use Rattle.envy_journal.proofs.Moments.{started, goes_on}
 use Rattle.envy_journal.proofs.Once.{counted, ended, ended_left, ended_torn, gate_in, once_batch, once_length, opened_file, opened_once}
 use Rattle.envy_journal.proofs.Synced.{P, at_first, synced, zeros_after}
@@ -88,3 +89,4 @@ pub returns-clause-counted : goal.returns-clause-counted
 returns-clause-counted g c =
     let ok = returns-clause-ok g c in
     counted_none g.D.Device.seen g.D.Device.may_leave g.D.Device.bytewise _ ok.2 refl (λ x was. c.in_ok-sync.ensures.durable x was ∙ sym c.sync.ensures.seen)
+    c.requires.spilled (λ may. let k = c.requires.counted in let now = ok.1 in subst (λ (l : List ℕ). HasRuns l) (sym now.2) (runs_more (kept_bytes g.D.Device.seen c.args.self.now) now.0 (k.runs may)))

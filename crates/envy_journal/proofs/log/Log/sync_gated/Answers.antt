@@ -1,7 +1,8 @@
 use Rattle.std.proofs.Common.{◌≡◌, ◌≤◌, ◌∙◌, ◌+◌, ◌-◌, ◌++◌, ◌∷◌, [], List, ℕ, ap, arith, length, length-append, replicate, take, subst, refl, sym}
 use Rattle.envy_device.specs.Device.{LeavesOnly}
+use Rattle.envy_journal.proofs.Logged.{runs_more}
 use Rattle.envy_journal.proofs.Moments.{started, goes_on}
-use Rattle.envy_journal.specs.Log.{held_bytes, kept_bytes}
+use Rattle.envy_journal.specs.Log.{HasRuns, held_bytes, kept_bytes}
 use Rattle.envy_journal.proofs.Batches.{counted_none, gated_batch}
 use Rattle.envy_journal.proofs.Spilled.{buffer_length}
 use Rattle.envy_journal.proofs.Synced.{P, after_whole, at_first, batch, batch_length, rest_after, staged_torn, staged, opened_follows, opened, synced, zeros_after}
@@ -112,3 +113,4 @@ pub returns-clause-counted : goal.returns-clause-counted
 returns-clause-counted g c =
     let ok = returns-clause-ok g c in
     counted_none g.D.Device.seen g.D.Device.may_leave g.D.Device.bytewise _ ok.2 refl (λ x was. c.in_ok-sync-2.ensures.durable x was ∙ sym c.sync-2.ensures.seen)
+    refl (λ may. let k = c.requires.counted in let now = ok.1 in subst (λ (l : List ℕ). HasRuns l) (sym now.2) (runs_more (kept_bytes g.D.Device.seen c.args.self.now) now.0 (k.runs may)))

@@ -58,4 +58,4 @@ returns-clause-counted g c =
     let bytes = ap (λ (l : List ℕ). take log.used l) c.deref.ensures.value in
     let all = spilled D.seen D.may_leave D.left_since D.synced log s c.write_at.new.self _ bytes c.in_ok-write_at.ensures.written D.moment c.requires.fits c.write_at.ensures.crash c.write_at.ensures.time c.write_at.ensures.synced (g.met.D.Device.synced_before log.device) c.zeros_written-zeros.result (omega arith) log.few in
     let now = log_now D.seen D.may_leave D.left_since D.synced log s c.write_at.new.self _ bytes c.in_ok-write_at.ensures.written in
-    counted_spilled D.seen D.may_leave D.left_since D.synced log s D.bytewise c.requires.counted _ _ bytes all.2 refl now c.in_ok-write_at.ensures.written c.write_at.ensures.bytewise c.write_at.ensures.mixed c.zeros_written-zeros.ensures
+    counted_spilled D.seen D.may_leave D.left_since D.synced log s D.bytewise c.requires.counted _ _ bytes all.2 refl now c.in_ok-write_at.ensures.written c.write_at.ensures.bytewise c.write_at.ensures.mixed c.zeros_written-zeros.ensures refl refl all.1

@@ -1,0 +1,156 @@
+// What a file has of puts: words in a row are one run.
+use crate::crashes::{NO_ROOM, SHAPE, SIZES, words};
+use envy_base::Board;
+use envy_journal::{Journaled, create, open, read_head};
+use envy_region::OwnedBoard;
+use envy_torn::TornFile;
+use std::alloc::Global;
+use std::process::Abort;
+
+// How many bytes are held back, so that nothing is written before a sync.
+const HELD: usize = 4000;
+
+// The version of files that are made, and the one before it.
+const VERSION: u8 = 4;
+
+const OLDER_VERSION: u8 = 2;
+
+type Journal = Journaled<OwnedBoard, TornFile>;
+
+// Puts so many words in a row.
+fn put_row(rt: &impl Abort, board: &mut Journal, first: u32, count: u32) {
+    for i in 0..count {
+        let w = first.saturating_add(i);
+        assert!(rt; w < envy_map::words(&board.shape()));
+        assert!(rt; board.put(w, u64::from(w) + 1).is_ok());
+    }
+}
+
+// Does what a text says: a digit puts so many words in a row, each row behind the one before; + puts 60 more, and - leaves
+// a word out; p programs a row, s syncs, c compacts.
+fn act(rt: &impl Abort, journal: &mut Journal, text: &str) {
+    let mut next = 20;
+    for &byte in text.as_bytes() {
+        if byte == b'p' {
+            assert!(rt; 0 < journal.shape().segments * journal.shape().rows);
+            assert!(rt; journal.program(0, &[7; 32]).is_ok());
+        } else if byte == b's' {
+            assert!(rt; journal.sync().is_ok());
+        } else if byte == b'c' {
+            assert!(rt; journal.compact().is_ok());
+        } else if byte == b'-' {
+            next += 1;
+        } else {
+            let count = if byte == b'+' { 60 } else { u32::from(byte.saturating_sub(b'0')) };
+            put_row(rt, journal, next, count);
+            next = next.saturating_add(count);
+        }
+    }
+    assert!(rt; journal.sync().is_ok());
+}
+
+// A new journal.
+fn made(rt: &impl Abort, alloc: Global) -> Option<Journal> {
+    SHAPE.check().expect(rt, SIZES);
+    let board = OwnedBoard::blank(alloc, &SHAPE).expect(rt, NO_ROOM);
+    let file = TornFile::new(alloc, Vec::new(alloc), usize::MAX, false).expect(rt, NO_ROOM);
+    create(alloc, board, file, HELD).ok()
+}
+
+// The journal of a file, if it opens.
+fn opened(rt: &impl Abort, alloc: Global, bytes: &[u8]) -> Option<Journal> {
+    let shape = read_head(bytes).expect(rt, "no head");
+    assert!(rt; shape == SHAPE);
+    shape.check().expect(rt, SIZES);
+    let board = OwnedBoard::blank(alloc, &shape).expect(rt, NO_ROOM);
+    let copy = bytes.to_vec(alloc).expect(rt, NO_ROOM);
+    let file = TornFile::new(alloc, copy, usize::MAX, false).expect(rt, NO_ROOM);
+    open(alloc, board, file, bytes, HELD).ok()
+}
+
+// The file of a journal in which a text is done.
+fn file_after(rt: &impl Abort, alloc: Global, journal: Option<Journal>, text: &str) -> Vec<u8> {
+    let mut journal = journal.expect(rt, "it doesn't open");
+    act(rt, &mut journal, text);
+    journal.close().bytes().to_vec(alloc).expect(rt, NO_ROOM)
+}
+
+// How many bytes an operation or the end of a batch takes, by its tag.
+fn size_of(tag: u8) -> usize {
+    match tag {
+        1 => 13,
+        2 => 261,
+        3 => 5,
+        7 => 9,
+        130..=192 => 5 + 8 * usize::from(tag - 128),
+        _ => 1,
+    }
+}
+
+// The tags of all operations of a file, and of the ends of its batches.
+fn tags(rt: &impl Abort, alloc: Global, bytes: &[u8]) -> Vec<u8> {
+    let mut found = Vec::new(alloc);
+    let mut at = 33;
+    let mut within = false;
+    while at < bytes.len() {
+        let tag = bytes[at];
+        if within {
+            found.push(tag).expect(rt, NO_ROOM);
+            within = tag != 5 && tag != 7;
+            at += size_of(tag);
+        } else if tag == 4 || tag == 6 {
+            within = true;
+            at += 1;
+        } else {
+            break;
+        }
+    }
+    found
+}
+
+// A text done in a new journal leaves operations with these tags, and a file that holds what the journal held.
+fn logs(rt: &impl Abort, alloc: Global, text: &str, wanted: &[u8]) {
+    let bytes = file_after(rt, alloc, made(rt, alloc), text);
+    assert!(rt; bytes[8] == VERSION);
+    let found = tags(rt, alloc, &bytes);
+    assert!(rt; found.as_slice() == wanted, "{text} is logged otherwise");
+    let mut journal = made(rt, alloc).expect(rt, "it isn't made");
+    act(rt, &mut journal, text);
+    let held = words(rt, alloc, &journal);
+    let again = opened(rt, alloc, &bytes).expect(rt, "it doesn't open");
+    let read = words(rt, alloc, &again);
+    assert!(rt; held.as_slice() == read.as_slice(), "{text} is read otherwise");
+}
+
+#[test]
+fn words_in_a_row_are_one_run(rt: HostRuntime) {
+    let alloc = rt.alloc();
+    logs(&rt, alloc, "2", &[130, 5]);
+    logs(&rt, alloc, "+4", &[192, 5]);
+    logs(&rt, alloc, "+5", &[192, 1, 5]);
+    logs(&rt, alloc, "1-1", &[1, 1, 5]);
+    logs(&rt, alloc, "2-3", &[130, 131, 5]);
+    logs(&rt, alloc, "1p1", &[1, 2, 1, 5]);
+    logs(&rt, alloc, "2s2", &[130, 5, 130, 5]);
+}
+
+#[test]
+fn an_older_log_gets_runs_once_it_is_compacted(rt: HostRuntime) {
+    let alloc = rt.alloc();
+    let mut bytes = file_after(&rt, alloc, made(&rt, alloc), "1");
+    bytes[8] = OLDER_VERSION;
+    let more = file_after(&rt, alloc, opened(&rt, alloc, &bytes), "3");
+    assert!(&rt; more[8] == OLDER_VERSION);
+    assert!(&rt; tags(&rt, alloc, &more).as_slice() == [1, 5, 1, 1, 1, 5], "no run");
+    let new = file_after(&rt, alloc, opened(&rt, alloc, &more), "c3");
+    assert!(&rt; new[8] == VERSION);
+    assert!(&rt; tags(&rt, alloc, &new).ends_with(&[5, 131, 5]), "a run");
+}
+
+#[test]
+fn a_run_that_is_cut_short_is_damage(rt: HostRuntime) {
+    let alloc = rt.alloc();
+    let mut bytes = file_after(&rt, alloc, made(&rt, alloc), "3");
+    bytes.truncate(34 + 28);
+    assert!(&rt; opened(&rt, alloc, &bytes).is_none());
+}
