@@ -91,10 +91,10 @@ place-read ws run a count key low top index new_low new_top long is p = record {
 pub climbs-read : (ws run : List ℕ) (a n : ℕ) → length run ≡ n → run ≡ run_at ws a (length run) → Climbs ws a n → Climbs run 0 (length run)
 climbs-read ws run a n long is c = record {
   rise = λ i j le lt.
-    let front = ap (λ k. get_or run k 0) (zero-first i) ∙ read-at ws run a (length run) i is (omega (arith, le, lt)) in
-    let rear = ap (λ k. get_or run k 0) (zero-first j) ∙ read-at ws run a (length run) j is lt in
-    let rise = c.rise i j le (omega (arith, long, lt)) in
-    omega (arith, front, rear, rise);
+      let front = ap (λ k. get_or run k 0) (zero-first i) ∙ read-at ws run a (length run) i is (omega (arith, le, lt)) in
+      let rear = ap (λ k. get_or run k 0) (zero-first j) ∙ read-at ws run a (length run) j is lt in
+      let rise = c.rise i j le (omega (arith, long, lt)) in
+      omega (arith, front, rear, rise);
 }
 
 -- of so many words
