@@ -62,12 +62,12 @@ run-words p b a run on held within are = ∥∥₁_elim held (search props) (λ 
 -- ---- puts
 
 -- what a run of puts of slot 0 within a page meets
-pub record Meets (a : ℕ) (list : List ℕ) (p : Picture) : Type 0 where
+pub record Meets (b : Bool) (a : ℕ) (list : List ℕ) (p : Picture) : Type 0 where
   pub on : IsTrue p.chart.on
-  pub held : ∥ (IsTrue p.chart.on → IsHeld p.chart true) ∥₁
-  pub within : a + length list ≤ length (sheet_of p true).words
+  pub held : ∥ (IsTrue p.chart.on → IsHeld p.chart b) ∥₁
+  pub within : a + length list ≤ length (sheet_of p b).words
   pub page : a % 32 + length list ≤ 32
-  pub room : IsTrue (has (sheet_of p true).pages (a / 32)) ⊎ (length (sheet_of p true).pages < (sheet_of p true).room)
+  pub room : IsTrue (has (sheet_of p b).pages (a / 32)) ⊎ (length (sheet_of p b).pages < (sheet_of p b).room)
 
 -- its first k words are put
 record Ran (a k : ℕ) (list : List ℕ) (p r : Picture) : Type 0 where
@@ -103,7 +103,7 @@ same-page : (a k n : ℕ) → a % 32 + n ≤ 32 → k < n → (a + k) / 32 ≡ a
 same-page a k n le lt = omega arith
 
 -- the first word is put as any
-first-word : (a k : ℕ) (list : List ℕ) (w : ℕ) (r : Result Unit PutFault) (p x y : Picture) → Meets a list p → Ran a k list p x → k < length list → PutsWord 0 (a + k) w r x y → Word a (a + k) w r x y
+first-word : (a k : ℕ) (list : List ℕ) (w : ℕ) (r : Result Unit PutFault) (p x y : Picture) → Meets true a list p → Ran a k list p x → k < length list → PutsWord 0 (a + k) w r x y → Word a (a + k) w r x y
 first-word a k list w r p x y m ran lt puts = record {
   fine = fine;
   held = put-keeps x.chart y.chart true (a + k) w r refl ran.on ran.held puts.step puts.off;
@@ -163,14 +163,14 @@ more-of a k n le lt =
     rw some far
 
 -- word k
-one-word : (a k : ℕ) (list : List ℕ) (w : ℕ) (r : Result Unit PutFault) (p x y : Picture) → Meets a list p → Ran a k list p x → k < length list → PutsBy (is_more a k) 0 (a + k) w r x y → Word a (a + k) w r x y
+one-word : (a k : ℕ) (list : List ℕ) (w : ℕ) (r : Result Unit PutFault) (p x y : Picture) → Meets true a list p → Ran a k list p x → k < length list → PutsBy (is_more a k) 0 (a + k) w r x y → Word a (a + k) w r x y
 one-word a zero list w r p x y m ran lt puts = first-word a zero list w r p x y m ran lt puts
 one-word a (suc k) list w r p x y m ran lt puts =
     let more = subst (λ (b : Bool). PutsBy b 0 (a + suc k) w r x y) (more-of a k (length list) m.page lt) puts in
     more-word a (a + suc k) w r x y ran.on ran.held more (PutsMore.ends more)
 
 -- words of a run, one after another
-run-so : (a k : ℕ) (list : List ℕ) (p r : Picture) → Meets a list p → k ≤ length list → PutsRun k list 0 a p r → Ran a k list p r
+run-so : (a k : ℕ) (list : List ℕ) (p r : Picture) → Meets true a list p → k ≤ length list → PutsRun k list 0 a p r → Ran a k list p r
 run-so a zero list p r m le same = subst (λ (x : Picture). Ran a zero list p x) (sym same) (record {
   on = m.on;
   held = m.held;
@@ -193,37 +193,37 @@ run-so a (suc k) list p r m le (x, run, puts) =
     }
 
 -- what the whole run leaves
-pub record RunLeaves (a : ℕ) (list : List ℕ) (answer : Result Unit PutFault) (p q : Picture) : Type 0 where
+pub record RunLeaves (b : Bool) (a : ℕ) (list : List ℕ) (answer : Result Unit PutFault) (p q : Picture) : Type 0 where
   pub fine : IsNoRefusal answer
-  pub held : ∥ (IsTrue q.chart.on → IsHeld q.chart true) ∥₁
-  pub page : OnPage (a / 32) (sheet_of p true) (sheet_of q true)
-  pub spends : Spends (length list) (sheet_of p true) (sheet_of q true)
-  pub puts : SheetPutsRun (sheet_of p true) a list (trouble_of answer) (sheet_of q true)
+  pub held : ∥ (IsTrue q.chart.on → IsHeld q.chart b) ∥₁
+  pub page : OnPage (a / 32) (sheet_of p b) (sheet_of q b)
+  pub spends : Spends (length list) (sheet_of p b) (sheet_of q b)
+  pub puts : SheetPutsRun (sheet_of p b) a list (trouble_of answer) (sheet_of q b)
 
 run-puts : (a k : ℕ) (list : List ℕ) (answer : Result Unit PutFault) (p x q : Picture) → k < length list → answer ≢ Ok tt → Ran a k list p x → Word a (a + k) (slice_index list k) answer x q → SheetPutsRun (sheet_of p true) a list (trouble_of answer) (sheet_of q true)
-run-puts a k list (Ok tt) p x q lt no ran word = absurd (no refl)
-run-puts a k list (Err PutOff) p x q lt no ran word = word.did
-run-puts a k list (Err PutBad) p x q lt no ran word = (word.did.0, rose-from p.chart.bads x.chart.bads q.chart.bads (SheetWorks.bads (OnPage.works ran.page)) (SheetWorks.bads (OnPage.works word.page)) word.did.2, (k, omega arith, word.did.1 ∙ ran.words))
+run-puts a k list (Ok done) p x q lt other ran word = absurd (other refl)
+run-puts a k list (Err PutOff) p x q lt other ran word = word.did
+run-puts a k list (Err PutBad) p x q lt other ran word = (word.did.0, rose-from p.chart.bads x.chart.bads q.chart.bads (SheetWorks.bads (OnPage.works ran.page)) (SheetWorks.bads (OnPage.works word.page)) word.did.2, (k, omega arith, word.did.1 ∙ ran.words))
   where
     rose-from : (l m n : ℕ) → l ≤ m → m ≤ n → Rose m n → Rose l n
     rose-from l m n le ge rose few = elim (cases_lt m (2 ^ 64 - 1)) [ inl lt ↦ (let more : m < n = rose lt in omega arith) | inr most ↦ omega (arith, most) ]
-run-puts a k list (Err PutRange) p x q lt no ran word = absurd word.fine
-run-puts a k list (Err PutClosed) p x q lt no ran word = absurd word.fine
-run-puts a k list (Err (PutHeld u)) p x q lt no ran word = absurd word.fine
-run-puts a k list (Err PutFull) p x q lt no ran word = absurd word.fine
+run-puts a k list (Err PutRange) p x q lt other ran word = absurd word.fine
+run-puts a k list (Err PutClosed) p x q lt other ran word = absurd word.fine
+run-puts a k list (Err (PutHeld u)) p x q lt other ran word = absurd word.fine
+run-puts a k list (Err PutFull) p x q lt other ran word = absurd word.fine
 
-pub run-leaves : (a k : ℕ) (list : List ℕ) (answer : Result Unit PutFault) (p x q : Picture) → Meets a list p → PutsRun k list 0 a p x → EndsRun x q 0 a list k answer → RunLeaves a list answer p q
+run-leaves : (a k : ℕ) (list : List ℕ) (answer : Result Unit PutFault) (p x q : Picture) → Meets true a list p → PutsRun k list 0 a p x → EndsRun x q 0 a list k answer → RunLeaves true a list answer p q
 run-leaves a k list answer p x q m run (inl (all, same, done)) =
     let ran = run-so a k list p x m (omega arith) run in
-    let left : RunLeaves a list (Ok tt) p x = record {
+    let left : RunLeaves true a list (Ok tt) p x = record {
       fine = tt;
       held = ran.held;
       page = ran.page;
       spends = subst (λ (n : ℕ). Spends n (sheet_of p true) (sheet_of x true)) all ran.spends;
       puts = (ran.on, ran.words ∙ ap (λ (n : ℕ). pasted a list n (sheet_of p true).words) all);
     } in
-    subst (λ (r : Result Unit PutFault). RunLeaves a list r p q) (sym done) (subst (λ (z : Picture). RunLeaves a list (Ok tt) p z) (sym same) left)
-run-leaves a k list answer p x q m run (inr (lt, no, puts)) =
+    subst (λ (r : Result Unit PutFault). RunLeaves true a list r p q) (sym done) (subst (λ (z : Picture). RunLeaves true a list (Ok tt) p z) (sym same) left)
+run-leaves a k list answer p x q m run (inr (lt, other, puts)) =
     let ran = run-so a k list p x m (omega arith) run in
     let word = one-word a k list (slice_index list k) answer p x q m ran lt puts in
     record {
@@ -231,7 +231,7 @@ run-leaves a k list answer p x q m run (inr (lt, no, puts)) =
       held = word.held;
       page = OnPage-trans (a / 32) (sheet_of p true) (sheet_of x true) (sheet_of q true) ran.page word.page;
       spends = Spends-then k 1 (length list) (sheet_of p true) (sheet_of x true) (sheet_of q true) (omega arith) ran.spends word.spends;
-      puts = run-puts a k list answer p x q lt no ran word;
+      puts = run-puts a k list answer p x q lt other ran word;
     }
 
 -- there is room for the one page that it meets
@@ -239,7 +239,7 @@ met-few : (a n : ℕ) → a % 32 + n ≤ 32 → pages_met a n ≤ 1
 met-few a zero le = omega arith
 met-few a (suc n) le = omega arith
 
-pub run-has-room : (a : ℕ) (list : List ℕ) (p : Picture) → Meets a list p → length p.owned.pairs ≤ p.chart.shape.shadows → LacksRoom 0 a (length list) p → ⊥
+run-has-room : (a : ℕ) (list : List ℕ) (p : Picture) → Meets true a list p → length p.owned.pairs ≤ p.chart.shape.shadows → LacksRoom 0 a (length list) p → ⊥
 run-has-room a list p m few (on, active, lacks) = at (pages_within a (length list) p.chart.shape.pages) one lacks m.room
   where
     one : pages_within a (length list) p.chart.shape.pages ≤ 1
@@ -261,3 +261,17 @@ run-has-room a list p m few (on, active, lacks) = at (pages_within a (length lis
     at (suc zero) le lack (inl there) = spent (is_unowned p.owned (a / 32 + 0)) p.chart.shape.shadows (length p.owned.pairs) (ap (is_unowned p.owned) first ∙ owned-has p.owned.pairs (a / 32) there) lack few
     at (suc zero) le lack (inr less) = let long = pages-long p.owned.pairs in most (is_unowned p.owned (a / 32 + 0)) p.chart.shape.shadows (length p.owned.pairs) lack (omega (arith, less))
     at (suc (suc k)) le lack room = omega arith
+
+-- the run that an open transaction puts, of which no word is refused
+pub run-answers : (b : Bool) (a k : ℕ) (list : List ℕ) (answer : Result Unit PutFault) (p q : Picture) → b ≡ true → Meets b a list p → length p.owned.pairs ≤ p.chart.shape.shadows → ((answer ≡ Err PutFull) ↔ LacksRoom 0 a (length list) p) → ((x : Picture) × PutsRun k list 0 a p x × (answer ≢ Err PutFull → EndsRun x q 0 a list k answer)) → RunLeaves b a list answer p q
+run-answers b a k list answer p q begun m few full (x, run, ends) =
+    let meets = subst (λ (z : Bool). Meets z a list p) begun m in
+    subst (λ (z : Bool). RunLeaves z a list answer p q) (sym begun) (run-leaves a k list answer p x q meets run (ends (λ e. run-has-room a list p meets few (full.0 e))))
+
+-- how many words there are stays
+pub run-few : (p q : Picture) (b : Bool) (r : ℕ) → OnPage r (sheet_of p b) (sheet_of q b) → 32 * p.chart.shape.pages < 2 ^ 32 → 32 * q.chart.shape.pages < 2 ^ 32
+run-few p q b r page few =
+    let same = SheetWorks.long (OnPage.works page) in
+    let old = words_long (p.chart.on && b) p.chart in
+    let new = words_long (q.chart.on && b) q.chart in
+    omega arith

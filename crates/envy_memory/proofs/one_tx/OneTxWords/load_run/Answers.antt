@@ -1,4 +1,4 @@
-use Rattle.std.proofs.Common.{ap, sym, ◌∙◌}
+use Rattle.std.proofs.Common.{ap, sym, ◌∙◌, arith}
 use Rattle.std.specs.Prelude.{Err}
 use Rattle.envy_array.specs.Words.{Sheet}
 use Rattle.envy_map.specs.Fields.{Chart}
@@ -16,3 +16,23 @@ invariant_of-self g c =
       few = few-as c.args.self.now.memory.chart c.load_run.new.self.chart (ap (λ (x : Chart). x.shape) same) c.args.self.now.few;
       held = same-held c.args.self.now.memory.chart c.load_run.new.self.chart c.args.self.now.begun same c.args.self.now.held;
     }
+
+pub unreachable-requires : goal.unreachable-requires
+unreachable-requires g c = run-in-range c.args.self.now.memory c.args.self.now.begun c.args.a _ c.requires (c.load_run.ensures.range.0 (c.in-Err-Range.is ∙ ap (λ e. Err e) c.in-Err-Range.field-0-is))
+
+pub returns-in-Ok-clause-answer : goal.returns-in-Ok-clause-answer
+returns-in-Ok-clause-answer g c =
+    let p = c.args.self.now.memory in
+    let q = c.load_run.new.self in
+    let b = c.args.self.now.begun in
+    let lit = lit-ok q.chart.on _ _ c.load_run.result c.in-Ok.is c.load_run.ensures.off in
+    let same = ap (λ (x : Picture). x.chart) c.load_run.ensures.kept in
+    let whole = sheet-same p q b same (ap (λ (x : Picture). x.owned) c.load_run.ensures.kept) in
+    let on = sym (ap (λ (x : Chart). x.on) same) ∙ lit in
+    ((λ was. lit), run-words p b c.args.a c.load_run.new.into on c.args.self.now.held (omega (arith, c.requires, c.load_run.ensures.long)) c.in-Ok.ensures.words, ap (λ (s : Sheet). s.words) whole, ap (λ (s : Sheet). s.pages) whole)
+
+pub returns-in-Ok-clause-spends : goal.returns-in-Ok-clause-spends
+returns-in-Ok-clause-spends g c = load-spends c.args.self.now.memory c.load_run.new.self c.args.self.now.begun (ap (λ (p : Picture). p.chart) c.load_run.ensures.kept)
+
+pub returns-in-Err-Off-clause-spends : goal.returns-in-Err-Off-clause-spends
+returns-in-Err-Off-clause-spends g c = load-spends c.args.self.now.memory c.load_run.new.self c.args.self.now.begun (ap (λ (p : Picture). p.chart) c.load_run.ensures.kept)
