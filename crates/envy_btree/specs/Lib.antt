@@ -1,10 +1,12 @@
 pub mod Answers
+pub mod Bulk
 pub mod Changes
 pub mod Commands
 pub mod Depths
 pub mod Examples
 pub mod Grammar
 pub mod Index
+pub mod Loading
 pub mod Looking
 pub mod Nearest
 pub mod Nodes

@@ -1,6 +1,8 @@
 //! An index tree on pieces of words.
 #![tactic(auto)]
 
+mod appending;
+mod bulk;
 mod changes;
 mod command;
 mod drop_root;
@@ -12,8 +14,10 @@ mod insertion;
 mod insertion_path;
 mod laws;
 mod leaf;
+mod leaf_pairs;
 mod line;
 mod line_fields;
+mod loading;
 mod lookup;
 mod new_root;
 mod node;
@@ -40,6 +44,7 @@ pub use laws::{
 };
 pub use line::IndexLine;
 pub use line_fields::read_index_line;
+pub use loading::load;
 pub use lookup::get;
 pub use removal::remove;
 pub use reply::{IndexReply, index_text};
