@@ -1,5 +1,5 @@
 -- Pairs that follow all others, on their way down: what goes on at the child and comes back, and what the leaf makes of it.
-use Rattle.std.proofs.Common.{◌≡◌, ℕ, zero, suc, ◌+◌, ◌-◌, ◌*◌, ◌^◌, ◌<◌, ◌≤◌, Bool, true, false, List, length, map, get_or, refl, ap, sym, subst, ◌∙◌, IfOk, Option, None, Some, Result, Ok, Err, arith}
+use Rattle.std.proofs.Common.{◌≡◌, ℕ, zero, suc, ◌+◌, ◌-◌, ◌*◌, ◌^◌, ◌<◌, ◌≤◌, Bool, true, false, List, length, map, get_or, ap, sym, subst, ◌∙◌, IfOk, Option, None, Some, Result, Ok, Err, arith}
 use Rattle.std.specs.List.{insert}
 use Rattle.std.proofs.lemmas.List.{length-map, get_or-map, get_or_past}
 use Rattle.std.proofs.lemmas.List.Edits.{length-insert}
@@ -12,7 +12,7 @@ use Rattle.envy_btree.specs.Tree.{Tree, Ordered, Rising, Sized, Holds, Shows, us
 use Rattle.envy_btree.specs.Nodes.{Ranks, IsRead, width}
 use Rattle.envy_btree.specs.Index.{Stands}
 use Rattle.envy_btree.specs.Bulk.{with_pairs, Brim, Follows, Leafed}
-use Rattle.envy_btree.specs.Changes.{Rests, Saved, InHand, Ready, GetsChild}
+use Rattle.envy_btree.specs.Changes.{Rests, Saved, Ready, GetsChild}
 use Rattle.envy_btree.specs.Spots.{IsSpot, keys_at, slots_at}
 use Rattle.envy_btree.proofs.Trees.{low_of, high_of, Fans-long, Fans-at}
 use Rattle.envy_btree.proofs.Descent.{bare, read-shows, Rests-within}

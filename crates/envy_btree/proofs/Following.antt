@@ -1,20 +1,20 @@
 -- Pairs that follow all others, as a leaf of their own.
-use Rattle.std.proofs.Common.{◌≡◌, ◌≢◌, ℕ, zero, suc, ◌+◌, ◌-◌, ◌*◌, ◌<◌, ◌≤◌, Bool, true, false, cond, List, [], ◌∷◌, ◌++◌, length, take, get_or, refl, ap, sym, subst, ◌∙◌, inl, inr, eqb, ltb, arith}
+use Rattle.std.proofs.Common.{◌≡◌, ◌≢◌, ℕ, zero, suc, ◌+◌, ◌<◌, ◌≤◌, Bool, true, false, cond, List, [], ◌∷◌, ◌++◌, length, take, get_or, refl, ap, sym, subst, ◌∙◌, inl, inr, eqb, ltb, arith}
 use Rattle.std.specs.List.{All, flat_map}
 use Rattle.std.proofs.lemmas.Bool.{cases_lt}
 use Rattle.std.proofs.lemmas.List.{append_assoc, append-nil}
 use Rattle.std.proofs.lemmas.List.Elements.{All-cons, All-nil, All-head, All-tail, All-get_or}
-use Rattle.envy_heap.specs.Pieces.{IsHeap, Takes, handed, spare, at, one}
+use Rattle.envy_heap.specs.Pieces.{IsHeap, Takes, handed, at, one}
 use Rattle.envy_heap.proofs.Heaps.{one-same}
 use Rattle.envy_btree.specs.Pairs.{Below, Above}
-use Rattle.envy_btree.specs.Tree.{Tree, Rising, Ordered, Sized, Shows, keys_of, values_of, pairs_of, piece_of, uses}
+use Rattle.envy_btree.specs.Tree.{Tree, Rising, Ordered, Sized, Shows, keys_of, values_of, pairs_of, piece_of}
 use Rattle.envy_btree.specs.Nodes.{OnlyPiece, Ranks}
 use Rattle.envy_btree.specs.Index.{Stands}
 use Rattle.envy_btree.specs.Bulk.{with_pairs, Leafed}
 use Rattle.envy_btree.specs.Changes.{Parted}
 use Rattle.envy_btree.proofs.Maps.{ltb-lt, ltb-ge}
 use Rattle.envy_btree.proofs.Trees.{Fans-long, Fans-at, Ordered-within, low-next, low_of, high_of}
-use Rattle.envy_btree.proofs.Descent.{bare, uses-root}
+use Rattle.envy_btree.proofs.Descent.{bare}
 use Rattle.envy_btree.proofs.Counting.{nodes, nodes-pairs}
 use Rattle.envy_btree.proofs.Framing.{other-piece}
 use Rattle.envy_btree.proofs.Setting.{heap-kept}
@@ -70,13 +70,13 @@ child-enough d t s = omega (arith, nodes-pairs d t s, nodes-some d t)
 pub last-child : (key low high i d : ℕ) (t : Tree (suc d)) → Ordered (suc d) low high t → All (Sized false d) t.kids → Ranks key t.keys i → Below key (flat_map (pairs_of d) t.kids) → length t.keys ≤ i
 last-child key low high i d t o sized r below = elim (cases_lt i (length t.keys)) [
   | inl lt ↦ (
-    let lj : suc i < length t.kids = omega (arith, Fans-long (Ordered d) low high t.keys t.kids o) in
-    let c = get_or t.kids (suc i) (bare d) in
-    let some : 0 < length (pairs_of d c) = omega (arith, child-enough d c (All-get_or (Sized false d) t.kids (suc i) (bare d) lj sized)) in
-    let within = Ordered-within d (low_of low t.keys (suc i)) (high_of high t.keys (suc i)) c (Fans-at (Ordered d) low high t.keys t.kids (suc i) (bare d) (omega arith) o) in
-    let above = All-get_or (λ (e : ℕ × ℕ). (low_of low t.keys (suc i) ≤ e.0) × (e.0 < high_of high t.keys (suc i))) (pairs_of d c) 0 (0, 0) some within in
-    let under = All-get_or (λ (e : ℕ × ℕ). e.0 < key) (pairs_of d c) 0 (0, 0) some (All-child (λ (e : ℕ × ℕ). e.0 < key) (pairs_of d) t.kids (suc i) (bare d) lj below) in
-    absurd (omega (arith, above.0, under, low-next low t.keys i lt, r.above lt)))
+      let lj : suc i < length t.kids = omega (arith, Fans-long (Ordered d) low high t.keys t.kids o) in
+      let c = get_or t.kids (suc i) (bare d) in
+      let some : 0 < length (pairs_of d c) = omega (arith, child-enough d c (All-get_or (Sized false d) t.kids (suc i) (bare d) lj sized)) in
+      let within = Ordered-within d (low_of low t.keys (suc i)) (high_of high t.keys (suc i)) c (Fans-at (Ordered d) low high t.keys t.kids (suc i) (bare d) (omega arith) o) in
+      let above = All-get_or (λ (e : ℕ × ℕ). (low_of low t.keys (suc i) ≤ e.0) × (e.0 < high_of high t.keys (suc i))) (pairs_of d c) 0 (0, 0) some within in
+      let under = All-get_or (λ (e : ℕ × ℕ). e.0 < key) (pairs_of d c) 0 (0, 0) some (All-child (λ (e : ℕ × ℕ). e.0 < key) (pairs_of d) t.kids (suc i) (bare d) lj below) in
+      absurd (omega (arith, above.0, under, low-next low t.keys i lt, r.above lt)))
   | inr ge ↦ ge
 ]
 

@@ -48,4 +48,3 @@ pub mod Keeping
 pub mod Following
 pub mod Descending
 pub mod Founding
-pub mod Feeding

@@ -1,5 +1,5 @@
 -- What it makes of a tree that pairs are put after all others, as a leaf of their own.
-use Rattle.std.specs.Prelude.{◌≡◌, ◌⊎◌, ℕ, ◌^◌, ◌<◌, ◌≤◌, nat_lt, List, [], ◌∷◌, ◌++◌, length, slice_index, Option, if◌then◌else◌}
+use Rattle.std.specs.Prelude.{◌≡◌, ◌⊎◌, ℕ, ◌^◌, ◌≤◌, nat_lt, List, [], ◌∷◌, ◌++◌, length, slice_index, Option, if◌then◌else◌}
 use Rattle.envy_heap.specs.Pieces.{Takes}
 use Rattle.envy_btree.specs.Pairs.{Below}
 use Rattle.envy_btree.specs.Tree.{Rising, Shows, keys_of, pairs_of, values_of}

@@ -6,7 +6,6 @@ pub mod Depths
 pub mod Examples
 pub mod Grammar
 pub mod Index
-pub mod Loading
 pub mod Looking
 pub mod Nearest
 pub mod Nodes

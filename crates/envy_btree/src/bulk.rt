@@ -82,9 +82,15 @@ fn append_inside<W: Words>(
     append_at_root(words, level, key, pairs)
 }
 
-/// Puts pairs from a key on after all others, as a leaf of their own and as a transaction of its own. There are so
-/// many pairs from then on.
-pub(crate) fn append<W: Words>(
+/// Puts at most 31 pairs after all others, as a leaf of their own, in one transaction. They rise from `key` on, which is
+/// above each key of the map. `count` is how many pairs there are from then on. If the map has others, both they and
+/// the new ones are at least 15. It puts no more, and in no more pages, than an [`insert`](crate::insert).
+///
+/// # Errors
+///
+/// `Off`: power failed, and the map has all of the new pairs or none. `Bad`: a flash operation failed, and the map is as
+/// before. It is never `Full`.
+pub fn append<W: Words>(
     words: &mut W,
     key: u64,
     pairs: &[(u64, u64)],

@@ -1,14 +1,34 @@
-ghost use Rattle.std.specs.Prelude.{◌≡◌, ℕ, List, ◌+◌, ◌≤◌, length, IfOk, IsTrue, false};
+ghost use Rattle.std.specs.Prelude.{◌≡◌, ℕ, List, ◌+◌, ◌-◌, ◌<◌, ◌≤◌, length, IfOk, IsTrue, false};
 ghost use Rattle.envy_array.specs.Words.{Spends, Works, Fails, has};
 ghost use Rattle.envy_heap.specs.Pieces.{IsHeap, spare};
 ghost use Rattle.envy_btree.specs.Bulk.{Leafed};
 ghost use Rattle.envy_btree.specs.Tree.{keys_of, values_of};
 
 use crate::node::{Node, write_node};
+use crate::sizes::{LEAST_KEYS, MOST_KEYS};
 use arrayvec::ArrayVec;
 use envy_array::Words;
 use envy_base::Trouble;
 use envy_heap::take;
+
+/// How many of the pairs that are left a load puts into its next leaf: as many as it may, or else so many that the leaf
+/// after it has enough.
+pub fn leaf_size(left: usize) -> usize
+    requires { 1 ≤ left }
+    ensures some { 1 ≤ result }
+    ensures few { result ≤ 31 }
+    ensures within { result ≤ left }
+    ensures enough { result < left → 15 ≤ result }
+    ensures rest { result < left → 15 ≤ left - result }
+{
+    if left <= MOST_KEYS {
+        left
+    } else if left < MOST_KEYS + LEAST_KEYS {
+        left / 2
+    } else {
+        MOST_KEYS
+    }
+}
 
 /// A leaf of these pairs.
 pub(crate) fn leaf_of(pairs: &[(u64, u64)]) -> Node

@@ -19,10 +19,10 @@ pub(crate) const SLOTS: u32 = 32;
 pub(crate) const HEAD_LIMIT: u64 = 64;
 
 /// The most keys of a node.
-pub(crate) const MOST_KEYS: usize = 31;
+pub const MOST_KEYS: usize = 31;
 
 /// The fewest keys of a node that isn't the root.
-pub(crate) const LEAST_KEYS: usize = 15;
+pub const LEAST_KEYS: usize = 15;
 
 /// The most levels of nodes in `2^29` words.
 pub(crate) const LEVELS: u32 = 7;

@@ -1,4 +1,4 @@
-use Rattle.std.proofs.Common.{◌≢◌, ◌+◌, ◌-◌, ◌*◌, ◌≤◌, ◌∙◌, [], ◌∷◌, ap, sym, subst, arith, get_or, List, ℕ, Option, OnOk, length}
+use Rattle.std.proofs.Common.{◌≢◌, ◌+◌, ◌-◌, ◌*◌, ◌≤◌, ◌∙◌, ap, sym, subst, arith, get_or, List, ℕ, Option, OnOk, length}
 use Rattle.envy_heap.specs.Pieces.{IsHeap, spare}
 use Rattle.envy_btree.specs.Bulk.{Brim, Follows}
 use Rattle.envy_btree.specs.Changes.{Crowned}

@@ -1,9 +1,8 @@
-use Rattle.std.proofs.Common.{◌≡◌, ◌+◌, ◌≤◌, ◌∙◌, length, sym, subst, arith, Ok, Option, ℕ}
+use Rattle.std.proofs.Common.{◌∙◌, subst, arith, Ok, Option, ℕ}
 use Rattle.envy_heap.specs.Pieces.{TakesAs}
 use Rattle.envy_heap.proofs.Heaps.{exhausted-spare}
-use Rattle.envy_btree.specs.Tree.{keys_of, values_of}
 use Rattle.envy_array.proofs.Working.{Works-trans}
-use Rattle.envy_btree.proofs.Exits.{none-if, err-fails, fails-after, no-works, room-left}
+use Rattle.envy_btree.proofs.Exits.{none-if, err-fails, no-works, room-left}
 use Rattle.envy_btree.proofs.Planting.{taken-within}
 use Rattle.envy_btree.proofs.Following.{leafed-of}
 use Rattle.envy_btree.proofs.leaf_pairs.add_leaf.Goals as goal

@@ -1,4 +1,4 @@
-use Rattle.std.proofs.Common.{◌+◌, ◌∙◌, refl, arith}
+use Rattle.std.proofs.Common.{◌∙◌, refl, arith}
 use Rattle.envy_btree.proofs.Following.{keys-more, values-more}
 use Rattle.envy_btree.proofs.leaf_pairs.leaf_of.Goals as goal
 
