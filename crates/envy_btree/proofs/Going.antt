@@ -20,12 +20,12 @@ use Rattle.envy_btree.proofs.Halving.{slots-long}
 use Rattle.envy_btree.proofs.Holding.{leaf-hand, hand-out, saved-outcome}
 use Rattle.envy_btree.proofs.Spreading.{with_pair-local, inner-became, grown-hand}
 
-low_of-le : (low key : ℕ) (ks : List ℕ) (i : ℕ) → low ≤ key → ((j : ℕ) → j < i → get_or ks j 0 ≤ key) → i ≤ length ks → low_of low ks i ≤ key
+pub low_of-le : (low key : ℕ) (ks : List ℕ) (i : ℕ) → low ≤ key → ((j : ℕ) → j < i → get_or ks j 0 ≤ key) → i ≤ length ks → low_of low ks i ≤ key
 low_of-le low key ks zero le b h = le
 low_of-le low key [] (suc i) le b h = le
 low_of-le low key (k ∷ ks) (suc i) le b h = low_of-le k key ks i (b 0 (omega arith)) (λ j lt. b (suc j) (omega arith)) (omega arith)
 
-lt-high_of : (high key : ℕ) (ks : List ℕ) (i : ℕ) → key < high → (i < length ks → key < get_or ks i 0) → key < high_of high ks i
+pub lt-high_of : (high key : ℕ) (ks : List ℕ) (i : ℕ) → key < high → (i < length ks → key < get_or ks i 0) → key < high_of high ks i
 lt-high_of high key [] zero lt a = lt
 lt-high_of high key [] (suc i) lt a = lt
 lt-high_of high key (k ∷ ks) zero lt a = a (omega arith)
@@ -45,7 +45,7 @@ pub record Goes (ws : List ℕ) (p level key value i : ℕ) (ks ss : List ℕ) (
       → ((free : List ℕ) → IsHeap mid free → handed mid free p ≡ 1 → Saved mid free p true (insert ks i s.0) (insert ss (i + 1) s.1) (Ok r) new) → Grows ws new p level key value t r
 
 -- a tree in hand whose root is handed out, with a piece left
-hand-ready : (old mid free : List ℕ) (es : List (ℕ × ℕ)) (low high d p : ℕ) (t : Tree d) (inner : Bool) (keys slots : List ℕ) → InHand old mid free es low high d t inner keys slots → piece_of d t ≡ p → d + 1 ≤ spare old free → Ready mid p
+pub hand-ready : (old mid free : List ℕ) (es : List (ℕ × ℕ)) (low high d p : ℕ) (t : Tree d) (inner : Bool) (keys slots : List ℕ) → InHand old mid free es low high d t inner keys slots → piece_of d t ≡ p → d + 1 ≤ spare old free → Ready mid p
 hand-ready old mid free es low high d p t inner keys slots h is many =
     let out : 1 ≤ handed mid h.next p = subst (λ x. 1 ≤ handed mid h.next x) (h.is ∙ is) (hand-out old mid free es low high d t inner keys slots h) in
     (h.next, h.heap, omega (arith, handed-le mid h.next p), omega (arith, h.spares))

@@ -45,3 +45,6 @@ pub mod Passing
 pub mod Rows
 pub mod Heading
 pub mod Keeping
+pub mod Following
+pub mod Descending
+pub mod Founding

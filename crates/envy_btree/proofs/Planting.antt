@@ -91,7 +91,7 @@ first-of ws new es key value x lt none made (inr t) = absurd (omega (arith, t.2.
 pub planted-first : (ws new : List ℕ) (es : List (ℕ × ℕ)) (key value : ℕ) → IsPlanted ws es → key < 2 ^ 64 → get_or ws 0 0 ≡ 0 → ((free : List ℕ) → IsHeap ws free → Crowned ws new free 0 (key ∷ []) (value ∷ [])) → IsPlanted new (with_pair key value es) × (get_or new 3 0 ≡ get_or ws 3 0)
 planted-first ws new es key value x lt none made = first-of ws new es key value x lt none made x.tree
 
-spare-of : (ws : List ℕ) (es : List (ℕ × ℕ)) (x : IsPlanted ws es) → length es ≤ most_pairs ws → Rooted ws x.free es → 8 ≤ spare ws x.free
+pub spare-of : (ws : List ℕ) (es : List (ℕ × ℕ)) (x : IsPlanted ws es) → length es ≤ most_pairs ws → Rooted ws x.free es → 8 ≤ spare ws x.free
 spare-of ws es x few (inl n) = omega (arith, spare-all ws x.free x.heap n.2, x.heap.size)
 spare-of ws es x few (inr t) = spare-enough ws x.free t.0 t.1 x.heap t.2.stands.sized t.2.all (omega (arith, ap length t.3))
 

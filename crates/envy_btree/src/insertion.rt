@@ -39,8 +39,8 @@ pub fn insert<W: Words>(words: &mut W, key: u64, value: u64) -> Result<Option<u6
     }
 }
 
-/// The most pairs in so many words.
-pub(crate) fn most_pairs(size: u32) -> u64
+/// The most pairs of a map in so many words.
+pub fn most_pairs(size: u32) -> u64
     requires { 640 ≤ size }
     ensures { result ≡ 14 * ((size - 64) / 64 - 8) }
 {

@@ -96,8 +96,8 @@ fn grow_full_node<W: Words>(
     save(words, piece, &node)
 }
 
-// Gives an inner node of so many keys a child more, after the one at this place.
-fn grow_node<W: Words>(
+/// Gives an inner node of so many keys a child more, after the one at this place.
+pub(crate) fn grow_node<W: Words>(
     words: &mut W,
     piece: u32,
     keys: u32,

@@ -13,7 +13,12 @@ use envy_base::Trouble;
 use envy_heap::take;
 
 /// Makes a node of these keys and slots the root.
-fn crown<W: Words>(words: &mut W, inner: bool, keys: &[u64], slots: &[u64]) -> Result<(), Trouble>
+pub(crate) fn crown<W: Words>(
+    words: &mut W,
+    inner: bool,
+    keys: &[u64],
+    slots: &[u64],
+) -> Result<(), Trouble>
     requires begun { IsTrue (W.sheet words.old).started }
     requires head { IsTrue (has (W.sheet words.old).pages 0) }
     requires room { length (W.sheet words.old).pages + 2 ≤ (W.sheet words.old).room }

@@ -21,6 +21,12 @@ pub(crate) const MOST_KEYS: usize = 31;
 /// A node's first word, `2 * n` or `2 * n + 1` of at most 31 keys, is below this.
 pub(crate) const HEAD_LIMIT: u64 = 64;
 
+/// The most keys of a node.
+pub const MOST_KEYS: usize = 31;
+
+/// The fewest keys of a node that isn't the root.
+pub const LEAST_KEYS: usize = 15;
+
 /// The most levels of nodes in `2^29` words.
 pub(crate) const LEVELS: u32 = 7;
 
