@@ -15,9 +15,6 @@ pub(crate) const KEYS: u32 = 1;
 /// Where its values or children begin.
 pub(crate) const SLOTS: u32 = 32;
 
-/// The most keys of a node.
-pub(crate) const MOST_KEYS: usize = 31;
-
 /// A node's first word, `2 * n` or `2 * n + 1` of at most 31 keys, is below this.
 pub(crate) const HEAD_LIMIT: u64 = 64;
 
