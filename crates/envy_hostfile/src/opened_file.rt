@@ -12,11 +12,14 @@ use std::io::ErrorKind;
 use std::os::unix::fs::FileExt;
 use std::{fs, io};
 
-/// What a journal of the version that is known here begins with.
-const MARK: [u8; 9] = [1, b'e', b'N', b'V', b'y', b'J', b'N', b'L', 2];
+/// What a journal begins with, in front of its version.
+const MARK: [u8; 8] = [1, b'e', b'N', b'V', b'y', b'J', b'N', b'L'];
 
-/// How much of it is the name, in front of the version.
-const NAME: usize = 8;
+/// How many bytes that are.
+const MARK_SIZE: usize = 8;
+
+/// The versions that are known here.
+const VERSIONS: [u8; 2] = [2, 4];
 
 /// How many bytes are read at a time: so few that they are still in the processor's cache when they are put behind the others.
 pub(crate) const PIECE: usize = 1 << 16;
@@ -76,12 +79,17 @@ fn opened(rt: &HostRuntime, path: &str) -> io::Result<(File, bool)> {
 
 // Whether a file begins otherwise than a journal does: of a long one no more is read.
 fn is_foreign(file: &File) -> io::Result<bool> {
-    let mut front = [0; NAME];
-    if file.metadata()?.len() < NAME as u64 {
+    let mut front = [0; MARK_SIZE];
+    if file.metadata()?.len() < MARK_SIZE as u64 {
         return Ok(false);
     }
     file.read_exact_at(&mut front, 0)?;
-    Ok(front[..] != MARK[..NAME])
+    Ok(front[..] != MARK[..])
+}
+
+// Whether bytes begin as a journal of a version that is known here.
+fn is_journal(bytes: &[u8]) -> bool {
+    bytes.len() > MARK_SIZE && bytes.starts_with(&MARK) && VERSIONS.contains(&bytes[MARK_SIZE])
 }
 
 // Locks a file that was opened.
@@ -177,7 +185,7 @@ fn written_anew<'a>(
     ensures bytewise { IfOk result (λ file. host_bytewise file ≡ _bytewise) }
 {
     let mut file = found;
-    if !bytes.starts_with(&MARK) || file.begin_second().is_err() {
+    if !is_journal(bytes) || file.begin_second().is_err() {
         return Ok(file);
     }
     if file.write_second(bytes).is_err() {
