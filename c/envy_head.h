@@ -8,8 +8,8 @@
 /* A mark, a version, and six sizes of 4 bytes, the lowest byte first. */
 enum { HEAD = 33, MARK_BYTES = 8, SIZES_AT = MARK_BYTES + 1 };
 
-/* The version that is written, and read. */
-enum { JOURNAL_VERSION = 2 };
+/* The version that is written, and the one before it, which is read too. */
+enum { JOURNAL_VERSION = 4, OLDER_JOURNAL_VERSION = 2 };
 
 static const uint8_t JOURNAL_MARK[MARK_BYTES] = {1, 'e', 'N', 'V', 'y', 'J', 'N', 'L'};
 

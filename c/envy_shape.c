@@ -40,7 +40,7 @@ enum { USUAL_PART = 2, USUAL_LIMIT = 100 };
 /* The setup that a head tells. */
 static uint32_t told(const uint8_t *head, envy_setup *setup) {
     if (memcmp(head, JOURNAL_MARK, MARK_BYTES)) return ENVY_NO_JOURNAL;
-    if (head[MARK_BYTES] != JOURNAL_VERSION) return ENVY_OTHER_JOURNAL;
+    if (head[MARK_BYTES] != JOURNAL_VERSION && head[MARK_BYTES] != OLDER_JOURNAL_VERSION) return ENVY_OTHER_JOURNAL;
     envy_setup found = {
         .segments = size_at(head, 0),
         .rows = size_at(head, 1),

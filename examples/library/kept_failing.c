@@ -355,12 +355,14 @@ static void answers(void) {
     other.mark = 3;
     WANT(open_file(&other), ENVY_DONE);
     envy_close(&m);
-    /* the versions before and behind this one */
+    /* versions that aren't known: 4 is this one, and 2 the one before it */
     first.bytes[8] = 1;
     REFUSES(ENVY_OTHER_JOURNAL);
     first.bytes[8] = 3;
     REFUSES(ENVY_OTHER_JOURNAL);
-    first.bytes[8] = 2;
+    first.bytes[8] = 5;
+    REFUSES(ENVY_OTHER_JOURNAL);
+    first.bytes[8] = 4;
     first.bytes[1] ^= 1;
     REFUSES(ENVY_NO_JOURNAL);
     first.bytes[1] ^= 1;

@@ -1,5 +1,5 @@
 -- A board's content, made anew segment by segment, row by row and word by word.
-use Rattle.std.proofs.Common.{◌≡◌, inl, inr, Result, Ok, Err, OnOk, ℕ, ◌+◌, ◌-◌, ◌*◌, ◌/◌, ◌^◌, ◌<◌, ◌≤◌, ◌==◌, max, if◌then◌else◌, Bool, true, false, List, [], ◌∷◌, ◌++◌, length, get_or, set, map, get_or-set_same, refl, sym, ◌∙◌, ap, subst, arith, length-append}
+use Rattle.std.proofs.Common.{◌≡◌, inl, inr, Result, Ok, Err, OnOk, ℕ, ◌+◌, ◌-◌, ◌*◌, ◌/◌, ◌^◌, ◌<◌, ◌≤◌, ◌==◌, if◌then◌else◌, Bool, true, false, List, [], ◌∷◌, ◌++◌, length, get_or, set, map, get_or-set_same, refl, sym, ◌∙◌, ap, subst, arith, length-append}
 use Rattle.std.proofs.Math.Nat.{le-max_right, mul-le-mul_left, mul-le-mul_right}
 use Rattle.std.proofs.lemmas.Bool.{cases_eq, cases_lt, cond-true, cond-false, eq-eqb, ne_eqb}
 use Rattle.std.proofs.lemmas.List.{ext_get_or, get_or-set_other, length-set, length-replicate, append-nil}
@@ -8,12 +8,12 @@ use Rattle.std.specs.List.{range_with_len}
 use Rattle.envy_base.proofs.Rows.{block_of}
 use Rattle.envy_base.specs.declared.shape.Shape.{Shape}
 use Rattle.envy_base.specs.Map.{words_of}
-use Rattle.envy_base.specs.State.{State, IsBoard, IsPage, ands, ones, row_of}
+use Rattle.envy_base.specs.State.{State, IsBoard, ands, ones, row_of}
 use Rattle.envy_journal.specs.Condensed.{IsPart, Remakes}
 use Rattle.envy_journal.specs.Content.{Content, after, blank, changed, content_of, holds}
 use Rattle.envy_journal.specs.Head.{HasHead}
 use Rattle.envy_journal.specs.Journal.{IsLogged, done, held, kept}
-use Rattle.envy_journal.specs.Log.{Begins, IsCounted, IsSound, kept_bytes, held_bytes}
+use Rattle.envy_journal.specs.Log.{IsCounted, IsSound, kept_bytes, held_bytes}
 use Rattle.envy_journal.specs.Reading.{operations, reading, Leads}
 use Rattle.envy_journal.specs.Snapshot.{limit_of, most_of}
 use Rattle.envy_journal.specs.declared.log.Log.{Log}

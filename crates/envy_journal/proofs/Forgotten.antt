@@ -1,11 +1,11 @@
 -- A log whose held bytes are dropped: its file is cut behind the closed gate, and synced.
-use Rattle.std.proofs.Common.{◌≡◌, ⊎_elim, ℕ, ◌+◌, ◌-◌, ◌<◌, ◌≤◌, Bool, List, [], ◌∷◌, ◌++◌, length, take, drop, replicate, refl, sym, ◌∙◌, ap, subst, arith, length-append, length-take}
+use Rattle.std.proofs.Common.{◌≡◌, ⊎_elim, ℕ, ◌+◌, ◌-◌, ◌≤◌, Bool, List, [], ◌∷◌, ◌++◌, length, take, replicate, refl, sym, ◌∙◌, ap, subst, arith, length-append, length-take}
 use Rattle.std.proofs.lemmas.List.{take-take, take_all, take_at, drop_all}
 use Rattle.envy_device.specs.Device.{Cut, Elapses, Follows, LeavesOnly, Only}
 use Rattle.envy_journal.specs.Condensed.{StaysKept}
 use Rattle.envy_journal.specs.Held.{most_held}
 use Rattle.envy_journal.specs.declared.log.Log.{Log}
-use Rattle.envy_journal.specs.Log.{Begins, HasRuns, IsCounted, IsSound, IsTied, kept_bytes, held_bytes}
+use Rattle.envy_journal.specs.Log.{Begins, HasRuns, IsCounted, IsSound, kept_bytes, held_bytes}
 use Rattle.envy_journal.proofs.Batches.{counted_none, none_held}
 use Rattle.envy_journal.proofs.Moments.{goes_on, joined, started}
 use Rattle.envy_journal.proofs.Spilled.{kept_length}

@@ -1,6 +1,6 @@
 -- What stands at the front of a batch that was counted.
 use Rattle.std.proofs.Common.{◌≡◌, ◌≢◌, inl, inr, ℕ, zero, suc, ◌+◌, ◌*◌, ◌<◌, ◌≤◌, ◌==◌, nat_lt, true, false, List, [], ◌∷◌, length, get_or, take, drop, refl, sym, ◌∙◌, ap, arith, length-take, take-append-drop}
-use Rattle.std.proofs.lemmas.Bool.{cases_eq, cond-false, le-ltb, ne_eqb}
+use Rattle.std.proofs.lemmas.Bool.{cases_eq, cond-false, le-ltb}
 use Rattle.std.proofs.lemmas.List.{take-take, drop-drop, drop_more, drop_all}
 use Rattle.std.specs.Int.{w64, from_le_bytes}
 use Rattle.envy_journal.specs.Reading.{are_operations, behind_tag, whole, words_in, zero_in, zeros}

@@ -41,7 +41,11 @@ fn act(rt: &impl Abort, journal: &mut Journal, text: &str) {
         } else if byte == b'-' {
             next += 1;
         } else {
-            let count = if byte == b'+' { 60 } else { u32::from(byte.saturating_sub(b'0')) };
+            let count = if byte == b'+' {
+                60
+            } else {
+                u32::from(byte.saturating_sub(b'0'))
+            };
             put_row(rt, journal, next, count);
             next = next.saturating_add(count);
         }
@@ -119,7 +123,10 @@ fn logs(rt: &impl Abort, alloc: Global, text: &str, wanted: &[u8]) {
     let held = words(rt, alloc, &journal);
     let again = opened(rt, alloc, &bytes).expect(rt, "it doesn't open");
     let read = words(rt, alloc, &again);
-    assert!(rt; held.as_slice() == read.as_slice(), "{text} is read otherwise");
+    assert!(rt;
+        held.as_slice() == read.as_slice(),
+        "{text} is read otherwise"
+    );
 }
 
 #[test]
@@ -141,7 +148,8 @@ fn an_older_log_gets_runs_once_it_is_compacted(rt: HostRuntime) {
     bytes[8] = OLDER_VERSION;
     let more = file_after(&rt, alloc, opened(&rt, alloc, &bytes), "3");
     assert!(&rt; more[8] == OLDER_VERSION);
-    assert!(&rt; tags(&rt, alloc, &more).as_slice() == [1, 5, 1, 1, 1, 5], "no run");
+    let alone: &[u8] = &[1, 5, 1, 1, 1, 5];
+    assert!(&rt; tags(&rt, alloc, &more).as_slice() == alone, "no run");
     let new = file_after(&rt, alloc, opened(&rt, alloc, &more), "c3");
     assert!(&rt; new[8] == VERSION);
     assert!(&rt; tags(&rt, alloc, &new).ends_with(&[5, 131, 5]), "a run");

@@ -1,4 +1,4 @@
-use Rattle.std.proofs.Common.{◌∙◌, sym, arith}
+use Rattle.std.proofs.Common.{◌∙◌, sym}
 use Rattle.std.proofs.lemmas.Bool.{le-ltb, lt-ltb}
 use Rattle.envy_journal.proofs.Words.{words_put, words_low, words_high, words_run}
 use Rattle.envy_journal.proofs.operation.words_of_tag.Goals as goal

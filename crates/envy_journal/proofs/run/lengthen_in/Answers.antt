@@ -1,4 +1,4 @@
-use Rattle.std.proofs.Common.{◌+◌, arith}
+use Rattle.std.proofs.Common.{arith}
 use Rattle.envy_journal.proofs.Joined.{word_joined}
 use Rattle.envy_journal.proofs.run.lengthen_in.Goals as goal
 

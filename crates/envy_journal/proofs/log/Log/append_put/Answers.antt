@@ -1,4 +1,4 @@
-use Rattle.std.proofs.Common.{rules, ◌≡◌, ◌∙◌, true, sym, arith}
+use Rattle.std.proofs.Common.{rules, ◌∙◌, sym}
 use Rattle.std.proofs.lemmas.Bool.{false≢true}
 use Rattle.envy_journal.specs.Log.{held_bytes}
 use Rattle.envy_journal.proofs.Gathered.{ok_goes}

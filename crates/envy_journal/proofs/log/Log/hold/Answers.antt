@@ -1,4 +1,4 @@
-use Rattle.std.proofs.Common.{ℕ, ◌+◌, ◌++◌, ◌∙◌, List, length, take, drop, sym, ap, subst, arith}
+use Rattle.std.proofs.Common.{ℕ, ◌+◌, ◌++◌, ◌∙◌, List, length, take, drop, ap}
 use Rattle.envy_journal.specs.Log.{held_bytes, log_bytes}
 use Rattle.envy_journal.specs.Reading.{are_operations, bytes_of}
 use Rattle.envy_journal.proofs.Counting.{operations_both}

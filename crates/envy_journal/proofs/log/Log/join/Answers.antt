@@ -1,4 +1,4 @@
-use Rattle.std.proofs.Common.{rules, ◌≡◌, ◌∙◌, ◌+◌, ◌++◌, ◌<◌, ◌^◌, ℕ, List, take, drop, sym, ap, subst, arith}
+use Rattle.std.proofs.Common.{rules, ◌∙◌, ◌+◌, ◌++◌, ◌<◌, ◌^◌, ℕ, List, drop, ap, arith}
 use Rattle.envy_journal.specs.Joining.{IsNext}
 use Rattle.envy_journal.specs.Log.{log_bytes}
 use Rattle.envy_journal.specs.Reading.{are_operations}
