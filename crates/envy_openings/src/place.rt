@@ -41,6 +41,7 @@ pub fn close<R: Board + Drop, F: Board + Drop, S: Board + Drop>(place: &mut Memo
 }
 
 // What the board of a memory over regions says.
+#[inline(always)]
 fn steady(slot: &Option<Memory<BorrowedBoard<'static>>>)
     ensures { ForSome slot.now IsSteady }
 {
@@ -50,6 +51,7 @@ fn steady(slot: &Option<Memory<BorrowedBoard<'static>>>)
 }
 
 // What the board of a memory in a file says.
+#[inline(always)]
 fn flawless(slot: &Option<Memory<Kept<OwnedBoard, PortFile>>>)
     ensures { ForSome slot.now IsFlawless }
 {
@@ -59,6 +61,7 @@ fn flawless(slot: &Option<Memory<Kept<OwnedBoard, PortFile>>>)
 }
 
 /// What regions and files promise of their boards. It changes nothing.
+#[inline(always)]
 pub fn faultless(place: &MemoryPlace<BorrowedBoard<'static>, Kept<OwnedBoard, PortFile>, CalmBoard>)
     ensures { IsFaultless place.now }
 {
