@@ -328,6 +328,11 @@ uint32_t envy_map_begin(envy *m, uint32_t *slot);
 /* Makes a map without pairs of a range, whatever its words are. ENVY_DONE or ENVY_FULL. */
 uint32_t envy_map_create(envy *m, uint32_t slot, const envy_map *map);
 
+/* Makes a map of n pairs of a range, whatever its words are, in transactions of its own: no slot may be open. Their keys
+   rise. ENVY_DONE; ENVY_MAP_SETUP, ENVY_MAP_FULL or ENVY_RANGE (the keys don't rise), and nothing changes. After ENVY_OFF
+   and ENVY_BAD the words of the range are those of before, or a map of the first of the pairs. */
+uint32_t envy_map_load(envy *m, const envy_map *map, const envy_pair *pairs, size_t n);
+
 /* Sets the value of a key, and writes the one that it had before, if any. ENVY_DONE, ENVY_FULL or ENVY_MAP_FULL. */
 uint32_t envy_map_insert(envy *m, uint32_t slot, const envy_map *map, uint64_t key, uint64_t value, envy_old *before);
 

@@ -78,6 +78,7 @@ CALL(index_scan, (envy *m, uint64_t key, envy_pair *pairs, size_t n, size_t *cou
 CALL(index_scan_down, (envy *m, uint64_t key, envy_pair *pairs, size_t n, size_t *count), (m, key, pairs, n, count))
 CALL(map_begin, (envy *m, uint32_t *slot), (m, slot))
 CALL(map_create, (envy *m, uint32_t slot, const envy_map *map), (m, slot, map))
+CALL(map_load, (envy *m, const envy_map *map, const envy_pair *pairs, size_t n), (m, map, pairs, n))
 CALL_OR(map_insert, (envy *m, uint32_t slot, const envy_map *map, uint64_t key, uint64_t value, envy_old *before),
         (m, slot, map, key, value, before), before, (m, slot, map, key, value, OR_PLACE(before, envy_old)))
 CALL(map_remove, (envy *m, uint32_t slot, const envy_map *map, uint64_t key, uint64_t *value), (m, slot, map, key, value))

@@ -147,6 +147,8 @@ out/maps-asan "$work/maps-asan.file" 50000 "${1-1}"
 out/maps "$work/maps.file" 1000000 "${1-1}"
 out/broken_maps-asan "$work/broken-asan.file" 20000 "${1-1}"
 out/broken_maps "$work/broken.file" 200000 "${1-1}"
+out/loads-asan "${1-1}" >/dev/null
+out/loads "${1-1}"
 out/kept_ordered "$work/kept-ordered.file" 32000 "${1-1}"
 # (10,000,000 pairs, in an array of more pages than the tree once took, take some minutes: out/large_map FILE 10000000)
 out/large_map "$work/large-map.file" 100000

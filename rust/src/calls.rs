@@ -53,6 +53,10 @@ impl Memory {
         unsafe { sys::envy_map_create(self.handle(), slot, map) }
     }
 
+    pub(crate) fn map_load(&self, map: &Range, pairs: &[Pair]) -> u32 {
+        unsafe { sys::envy_map_load(self.handle(), map, pairs.as_ptr(), pairs.len()) }
+    }
+
     pub(crate) fn map_insert(&self, slot: u32, map: &Range, key: u64, value: u64, before: &mut Old) -> u32 {
         unsafe { sys::envy_map_insert(self.handle(), slot, map, key, value, before) }
     }

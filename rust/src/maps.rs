@@ -54,6 +54,21 @@ impl Maps {
         Ok(self.added(range))
     }
 
+    /// Makes a map of pairs in a range of addresses, as [`create`](Maps::create) does of none, in transactions of its own.
+    /// Their keys rise.
+    ///
+    /// # Errors
+    ///
+    /// `Range`: no map may lie there, another map lies there, or the keys don't rise. `MapFull`: these are more pairs than
+    /// a map there may have. `MapSetup`: the setup has fewer than 32 shadows. `SlotOpen`. Nothing changed then. After `Off`
+    /// and `Bad` the words of the range are those of before, or a map of the first pairs.
+    pub fn load(&self, words: Range<u32>, pairs: &[(u64, u64)]) -> Result<Map, Error> {
+        let range = self.apart(words)?;
+        let pairs: Vec<Pair> = pairs.iter().map(|&(key, value)| Pair { key, value }).collect();
+        self.check(self.memory.map_load(&range, &pairs))?;
+        Ok(self.added(range))
+    }
+
     /// Takes up the map that a range holds, after a look at all its words.
     ///
     /// # Errors

@@ -227,6 +227,7 @@ extern "C" {
     pub fn envy_index_scan_down(m: *mut Handle, key: u64, pairs: *mut Pair, n: usize, count: *mut usize) -> u32;
     pub fn envy_map_begin(m: *mut Handle, slot: *mut u32) -> u32;
     pub fn envy_map_create(m: *mut Handle, slot: u32, map: *const Range) -> u32;
+    pub fn envy_map_load(m: *mut Handle, map: *const Range, pairs: *const Pair, n: usize) -> u32;
     pub fn envy_map_insert(m: *mut Handle, slot: u32, map: *const Range, key: u64, value: u64, before: *mut Old) -> u32;
     pub fn envy_map_remove(m: *mut Handle, slot: u32, map: *const Range, key: u64, value: *mut u64) -> u32;
     pub fn envy_map_commit(m: *mut Handle, slot: u32) -> u32;

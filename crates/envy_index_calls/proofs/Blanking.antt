@@ -58,3 +58,7 @@ pub marked-index : (ws : List ℕ) → 640 ≤ length ws → IsIndex (marked ws)
 marked-index ws size =
     front-index (marked ws) (omega (arith, size, long-blanked 4 ws, length-set (blanked ws) 4 MAP_MARK))
     (λ a lt. get_or-set_other (blanked ws) 4 a MAP_MARK 0 (let ne : a ≢ 4 = omega (arith, lt) in ne) ∙ zero-blanked 4 a ws lt (omega (arith, size)))
+
+-- which has no root
+pub marked-root : (ws : List ℕ) → 640 ≤ length ws → get_or (marked ws) 0 0 ≡ 0
+marked-root ws size = get_or-set_other (blanked ws) 4 0 MAP_MARK 0 (omega arith) ∙ zero-blanked 4 0 ws (omega arith) (omega (arith, size))

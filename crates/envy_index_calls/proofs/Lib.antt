@@ -2,8 +2,10 @@ pub mod Attempting
 pub mod Blanking
 pub mod Checking
 pub mod Denying
+pub mod Feeding
 pub mod Lending
 pub mod Parts
 pub mod Ranging
 pub mod Returning
+pub mod Storing
 pub mod Viewing

@@ -3,6 +3,7 @@ ghost use Rattle.std.specs.Prelude.{◌≡◌, ◌+◌, ◌≤◌, length, false
 ghost use Rattle.std.specs.Option.{ForSome};
 ghost use Rattle.envy_array.specs.Words.{Fails, Keeps, OnPage, Spends, Works};
 ghost use Rattle.envy_calls.specs.Codes.{number_of};
+ghost use Rattle.envy_index_calls.specs.Loading.{Marks, marking_puts};
 ghost use Rattle.envy_index_calls.specs.Ranged.{marked};
 ghost use Rattle.envy_index_calls.specs.Indexed.{Blanks, DoesCreate, EndsTry, HoldsArray, IsTried, blanked, creation_puts, made_code};
 
@@ -76,6 +77,21 @@ fn create_alone<W: Words>(words: &mut W) -> Result<(), Trouble>
 {
     words.start()?;
     let done = blank(words);
+    end(words, done)
+}
+
+/// Makes a map of no pairs and marks it, as a transaction of its own.
+pub(crate) fn mark_alone<W: Words>(words: &mut W) -> Result<(), Trouble>
+    requires shut { (W.sheet words.old).started ≡ false }
+    requires room { 1 ≤ (W.sheet words.old).room }
+    requires size { 5 ≤ length (W.sheet words.old).words }
+    ensures keeps { Keeps (W.sheet words.old) (W.sheet words.new) }
+    ensures spends { Spends marking_puts (W.sheet words.old) (W.sheet words.new) }
+    ensures shut { (W.sheet words.new).started ≡ false }
+    ensures marks { Marks (W.sheet words.old) result (W.sheet words.new) }
+{
+    words.start()?;
+    let done = mark_blank(words);
     end(words, done)
 }
 

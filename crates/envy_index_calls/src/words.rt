@@ -15,7 +15,8 @@ use envy_memory::{Memory, OneTx};
 // A map needs so many pages, and its changes so many shadows.
 const LEAST_PAGES: u32 = 20;
 
-const LEAST_SHADOWS: u32 = 32;
+/// A map in changes needs so many shadows.
+pub(crate) const LEAST_SHADOWS: u32 = 32;
 
 /// The most pages of an array that holds a map: no key is more than seven nodes deep in it.
 pub const MOST_MAP_PAGES: u32 = 1 << 24;

@@ -7,6 +7,8 @@ ghost use Rattle.envy_calls.specs.Codes.{number_of};
 ghost use Rattle.envy_calls.specs.declared.code.Code.TheVariants.{BrokenMap, Done};
 ghost use Rattle.envy_index_calls.specs.Checked.{Checks};
 ghost use Rattle.envy_index_calls.specs.Indexed.{Counts, Gets, Scans, creation_puts};
+ghost use Rattle.envy_index_calls.specs.Loaded.{LoadsIn};
+ghost use Rattle.envy_index_calls.specs.Loading.{load_puts};
 ghost use Rattle.envy_index_calls.specs.Ranged.{Aborts, Calls, Changed, Commits, CreatesIn, Drops, HoldsMapIn, Kept, Sets, Starts};
 ghost use Rattle.envy_index_calls.specs.Ranges.{MayHold};
 ghost use Rattle.envy_index_calls.specs.Scanned.{pairs_in};
@@ -18,7 +20,7 @@ use crate::handle::{Envy, give_back, lend};
 use envy_index_calls::{EnvyMap, EnvyOld, EnvyPair};
 use envy_places::{
     map_abort, map_begin, map_check, map_commit, map_count, map_create, map_get, map_insert,
-    map_remove, map_scan, map_scan_down,
+    map_load, map_remove, map_scan, map_scan_down,
 };
 
 /// Begins a transaction of maps, and answers its slot, which is the first. No slot may be open.
@@ -51,6 +53,22 @@ pub extern "C" fn envy_map_create(m: &mut Envy, slot: u32, range: &EnvyMap) -> u
 {
     let place = lend(m);
     let code = map_create(place, slot, *range);
+    give_back(m, place);
+    code.number()
+}
+
+/// Makes a map of pairs in a range, whatever its words are, in transactions of its own. Their keys rise.
+#[unsafe(no_mangle)]
+pub extern "C" fn envy_map_load(m: &mut Envy, range: &EnvyMap, pairs: &[EnvyPair]) -> u32
+    requires place { InBlock m.old.at }
+    requires array { ForSome (held m.old.place.now) MayHold }
+    ensures live { InBlock m.new.at }
+    ensures faultless { AreFaultless m.old.place.now m.new.place.now }
+    ensures alike { AreAlike m.old.place.now m.new.place.now }
+    ensures loads { Calls (load_puts range.now.words (length pairs.now)) (LoadsIn range.now (pairs_in pairs.now)) (held m.old.place.now) (held m.new.place.now) result }
+{
+    let place = lend(m);
+    let code = map_load(place, *range, pairs);
     give_back(m, place);
     code.number()
 }

@@ -28,6 +28,6 @@ pub use index_calls::{
 pub use laws::no_two_answers_share_a_number;
 pub use map_calls::{
     map_abort, map_begin, map_check, map_commit, map_count, map_create, map_get, map_insert,
-    map_remove, map_scan, map_scan_down,
+    map_load, map_remove, map_scan, map_scan_down,
 };
 pub use place::{MemoryPlace, is_open};

@@ -7,6 +7,8 @@ ghost use Rattle.envy_calls.specs.Codes.{number_of};
 ghost use Rattle.envy_calls.specs.declared.code.Code.TheVariants.{Done, BrokenMap};
 ghost use Rattle.envy_index_calls.specs.Checked.{Checks};
 ghost use Rattle.envy_index_calls.specs.Indexed.{Counts, Gets, Scans, creation_puts};
+ghost use Rattle.envy_index_calls.specs.Loaded.{LoadsIn};
+ghost use Rattle.envy_index_calls.specs.Loading.{load_puts};
 ghost use Rattle.envy_index_calls.specs.Ranged.{Aborts, Calls, Changed, Commits, CreatesIn, Drops, HoldsMapIn, Kept, Sets, Starts};
 ghost use Rattle.envy_index_calls.specs.Ranges.{MayHold};
 ghost use Rattle.envy_index_calls.specs.Scanned.{pairs_in};
@@ -43,6 +45,19 @@ pub fn map_create<R: Board + Drop, F: Board + Drop, S: Board + Drop>(
     ensures alike { AreAlike place.old place.new }
 {
     on_each!(place, memory => envy_index_calls::map_create(memory, slot, range))
+}
+
+/// Makes a map of pairs in a range, whatever its words are, in transactions of its own. Their keys rise.
+pub fn map_load<R: Board + Drop, F: Board + Drop, S: Board + Drop>(
+    place: &mut MemoryPlace<R, F, S>,
+    range: EnvyMap,
+    pairs: &[EnvyPair],
+) -> Code
+    requires { ForSome (held place.old) MayHold }
+    ensures loads { Calls (load_puts range.words (length pairs.now)) (LoadsIn range (pairs_in pairs.now)) (held place.old) (held place.new) (number_of result) }
+    ensures alike { AreAlike place.old place.new }
+{
+    on_each!(place, memory => envy_index_calls::map_load(memory, range, pairs))
 }
 
 /// Sets the value of a key of the map in a range.
