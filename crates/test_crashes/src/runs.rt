@@ -29,7 +29,7 @@ fn put_row(rt: &impl Abort, board: &mut Journal, first: u32, count: u32) {
 // Does what a text says: a digit puts so many words in a row, each row behind the one before; + puts 60 more, and - leaves
 // a word out; p programs a row, s syncs, c compacts.
 fn act(rt: &impl Abort, journal: &mut Journal, text: &str) {
-    let mut next = 20;
+    let mut next = 20u32;
     for &byte in text.as_bytes() {
         if byte == b'p' {
             assert!(rt; 0 < journal.shape().segments * journal.shape().rows);
