@@ -29,7 +29,7 @@ fn put_row(rt: &impl Abort, board: &mut Journal, first: u32, count: u32) {
 // Does what a text says: a digit puts so many words in a row, each row behind the one before; + puts 60 more, and - leaves
 // a word out; p programs a row, s syncs, c compacts.
 fn act(rt: &impl Abort, journal: &mut Journal, text: &str) {
-    let mut next = 20;
+    let mut next = 20u32;
     for &byte in text.as_bytes() {
         if byte == b'p' {
             assert!(rt; 0 < journal.shape().segments * journal.shape().rows);
@@ -39,7 +39,7 @@ fn act(rt: &impl Abort, journal: &mut Journal, text: &str) {
         } else if byte == b'c' {
             assert!(rt; journal.compact().is_ok());
         } else if byte == b'-' {
-            next += 1;
+            next = next.saturating_add(1);
         } else {
             let count = if byte == b'+' {
                 60
@@ -79,6 +79,11 @@ fn file_after(rt: &impl Abort, alloc: Global, journal: Option<Journal>, text: &s
     journal.close().bytes().to_vec(alloc).expect(rt, NO_ROOM)
 }
 
+// The version that a file's head says.
+fn version_of(bytes: &[u8]) -> u8 {
+    if bytes.len() > 8 { bytes[8] } else { 0 }
+}
+
 // How many bytes an operation or the end of a batch takes, by its tag.
 fn size_of(tag: u8) -> usize {
     match tag {
@@ -86,7 +91,9 @@ fn size_of(tag: u8) -> usize {
         2 => 261,
         3 => 5,
         7 => 9,
-        130..=192 => 5 + 8 * usize::from(tag - 128),
+        130..=192 => usize::from(tag.saturating_sub(128))
+            .saturating_mul(8)
+            .saturating_add(5),
         _ => 1,
     }
 }
@@ -101,7 +108,7 @@ fn tags(rt: &impl Abort, alloc: Global, bytes: &[u8]) -> Vec<u8> {
         if within {
             found.push(tag).expect(rt, NO_ROOM);
             within = tag != 5 && tag != 7;
-            at += size_of(tag);
+            at = at.saturating_add(size_of(tag));
         } else if tag == 4 || tag == 6 {
             within = true;
             at += 1;
@@ -115,7 +122,7 @@ fn tags(rt: &impl Abort, alloc: Global, bytes: &[u8]) -> Vec<u8> {
 // A text done in a new journal leaves operations with these tags, and a file that holds what the journal held.
 fn logs(rt: &impl Abort, alloc: Global, text: &str, wanted: &[u8]) {
     let bytes = file_after(rt, alloc, made(rt, alloc), text);
-    assert!(rt; bytes[8] == VERSION);
+    assert!(rt; version_of(&bytes) == VERSION);
     let found = tags(rt, alloc, &bytes);
     assert!(rt; found.as_slice() == wanted, "{text} is logged otherwise");
     let mut journal = made(rt, alloc).expect(rt, "it isn't made");
@@ -145,13 +152,15 @@ fn words_in_a_row_are_one_run(rt: HostRuntime) {
 fn an_older_log_gets_runs_once_it_is_compacted(rt: HostRuntime) {
     let alloc = rt.alloc();
     let mut bytes = file_after(&rt, alloc, made(&rt, alloc), "1");
-    bytes[8] = OLDER_VERSION;
+    if bytes.len() > 8 {
+        bytes[8] = OLDER_VERSION;
+    }
     let more = file_after(&rt, alloc, opened(&rt, alloc, &bytes), "3");
-    assert!(&rt; more[8] == OLDER_VERSION);
+    assert!(&rt; version_of(&more) == OLDER_VERSION);
     let alone: &[u8] = &[1, 5, 1, 1, 1, 5];
     assert!(&rt; tags(&rt, alloc, &more).as_slice() == alone, "no run");
     let new = file_after(&rt, alloc, opened(&rt, alloc, &more), "c3");
-    assert!(&rt; new[8] == VERSION);
+    assert!(&rt; version_of(&new) == VERSION);
     assert!(&rt; tags(&rt, alloc, &new).ends_with(&[5, 131, 5]), "a run");
 }
 
