@@ -1,5 +1,6 @@
-use Rattle.std.proofs.Common.{◌+◌, ◌∙◌, length-set, get_or, refl, arith}
-use Rattle.envy_index_calls.specs.Scanned.{pair_in}
+use Rattle.std.proofs.Common.{◌≡◌, ◌+◌, ◌∙◌, ℕ, ap, sym, take, drop, length, length-set, get_or, refl, arith}
+use Rattle.std.proofs.lemmas.List.{take_all}
+use Rattle.envy_index_calls.specs.Scanned.{pair_in, pairs_in}
 use Rattle.envy_index_calls.proofs.Feeding.{part-more}
 use Rattle.envy_index_calls.proofs.loading.copy_part.Goals as goal
 
@@ -12,4 +13,9 @@ loop-i-preserved c =
     }
 
 pub returns : goal.returns
-returns c = ?
+returns c =
+    let mid = c.loop-i.invariant in
+    let all : c.loop-i.i ≡ length c.args.part.now = omega (arith, c.loop-i-test.false, c.loop-i.auto.i-end, mid.long) in
+    sym (take_all c.loop-i.i c.loop-i.part (omega (arith, c.loop-i-test.false, mid.long)))
+    ∙ mid.list
+    ∙ ap (λ (n : ℕ). take n (drop c.args.done (pairs_in c.args.pairs.now))) all

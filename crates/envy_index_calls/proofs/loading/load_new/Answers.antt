@@ -65,7 +65,7 @@ pub returns-in-Err-Off-clause-loads : goal.returns-in-Err-Off-clause-loads
 returns-in-Err-Off-clause-loads g c =
     let old = g.W.Words.sheet c.args.words.now in
     let mid = g.W.Words.sheet c.mark_alone.new.words in
-    let off = rw c.in-Err-Off.is at c.in-Err-Off.field-0-is in
+    let off = c.in-Err-Off.field-0-is in
     new-off (pairs_in c.args.pairs.now) old mid ((g.met.W.Words.lawful c.args.words.now).shut c.requires.shut) c.requires.least (subst (λ (r : Result Unit Trouble). Marks old r mid) (c.in-Err-Off.is ∙ ap (λ x. Err x) off) c.mark_alone.ensures.marks)
 
 pub returns-in-Err-Bad-clause-spends : goal.returns-in-Err-Bad-clause-spends
@@ -78,5 +78,5 @@ pub returns-in-Err-Bad-clause-loads : goal.returns-in-Err-Bad-clause-loads
 returns-in-Err-Bad-clause-loads g c =
     let old = g.W.Words.sheet c.args.words.now in
     let mid = g.W.Words.sheet c.mark_alone.new.words in
-    let bad = rw c.in-Err-Bad.is at c.in-Err-Bad.field-0-is in
+    let bad = c.in-Err-Bad.field-0-is in
     new-bad (pairs_in c.args.pairs.now) old mid (subst (λ (r : Result Unit Trouble). Marks old r mid) (c.in-Err-Bad.is ∙ ap (λ x. Err x) bad) c.mark_alone.ensures.marks)
