@@ -103,7 +103,10 @@ fn tags(rt: &impl Abort, alloc: Global, bytes: &[u8]) -> Vec<u8> {
     let mut found = Vec::new(alloc);
     let mut at = 33;
     let mut within = false;
-    while at < bytes.len() {
+    for _turn in 0..bytes.len() {
+        if at >= bytes.len() {
+            break;
+        }
         let tag = bytes[at];
         if within {
             found.push(tag).expect(rt, NO_ROOM);
@@ -111,7 +114,7 @@ fn tags(rt: &impl Abort, alloc: Global, bytes: &[u8]) -> Vec<u8> {
             at = at.saturating_add(size_of(tag));
         } else if tag == 4 || tag == 6 {
             within = true;
-            at += 1;
+            at = at.saturating_add(1);
         } else {
             break;
         }
