@@ -62,7 +62,7 @@ impl Maps {
     /// `Range`: no map may lie there, another map lies there, or the keys don't rise. `MapFull`: these are more pairs than
     /// a map there may have. `MapSetup`: the setup has fewer than 32 shadows. `SlotOpen`. Nothing changed then. After `Off`
     /// and `Bad` the words of the range are those of before, or a map of the first pairs.
-    pub fn load(&self, words: Range<u32>, pairs: &[(u64, u64)]) -> Result<Map, Error> {
+    pub fn load_pairs(&self, words: Range<u32>, pairs: &[(u64, u64)]) -> Result<Map, Error> {
         let range = self.apart(words)?;
         let pairs: Vec<Pair> = pairs.iter().map(|&(key, value)| Pair { key, value }).collect();
         self.check(self.memory.map_load(&range, &pairs))?;
