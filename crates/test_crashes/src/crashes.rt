@@ -59,7 +59,7 @@ pub(crate) fn act<B: Board>(rt: &impl Abort, board: &mut B, i: usize) -> bool {
     let place = if kind < 6 {
         drawn(&mut dice, 150)
     } else {
-        u32::try_from(i).unwrap_or(0).saturating_add(60)
+        u32::try_from(i % 90).unwrap_or(0).saturating_add(60)
     };
     let word = dice.below(1 << 40) as u64;
     if kind == 0 {
