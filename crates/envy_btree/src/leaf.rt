@@ -122,7 +122,14 @@ fn child_of<W: Words>(words: &mut W, spot: Spot, count: u32, key: u64) -> Result
         → Sees (λ x. IsUnder (W.sheet words.old).words es x.piece x.low x.top (levels + 1)) result }
 {
     let node = PIECE_WORDS + PIECE_WORDS * spot.piece;
-    let KeyPlace { index, low, top } = place_of(words, node + KEYS, count, key, spot.low, spot.top)?;
+    let KeyPlace { index, low, top } = place_of(
+        words,
+        node + KEYS,
+        count,
+        key,
+        spot.low,
+        spot.top,
+    )?;
     let child = words.load(node + SLOTS + index)?;
     let piece = piece_in(words.size(), child)?;
     Ok(Spot { piece, low, top })

@@ -29,8 +29,7 @@ returns-in-Ok-clause-answer g c =
     let lit = lit-ok q.chart.on _ _ c.search.result c.in-Ok.is c.search.ensures.off in
     let same = ap (λ (y : Picture). y.chart) c.search.ensures.kept in
     let whole = sheet-same p q b same (ap (λ (y : Picture). y.owned) c.search.ensures.kept) in
-    let on = sym (ap (λ (y : Chart). y.on) same) ∙ lit in
-    (
+    let on = sym (ap (λ (y : Chart). y.on) same) ∙ lit in (
       (λ was. lit),
       subst (λ (ws : List ℕ). IsPlace ws c.args.a c.args.n c.args.key c.args.low c.args.top x.index x.low x.top) (live-is p b on c.args.self.now.held) c.in-Ok.ensures.place,
       ap (λ (s : Sheet). s.words) whole,
