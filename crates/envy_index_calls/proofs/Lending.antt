@@ -29,8 +29,9 @@ use Rattle.envy_memory.specs.Sheets.{fixed_of, sheet_of, words_read}
 use Rattle.envy_calls.specs.Codes.{number_of}
 use Rattle.envy_calls.specs.declared.code.Code.{Code}
 use Rattle.envy_calls.specs.declared.code.Code.TheVariants.{Done, Empty, Off, Range, Held, Full, Busy, Closed, Bad, NoMemory, Open, Zero, Dead, Powered, FlashSize, SramSize, ErasesSize, Policy, Unformatted, Older, OtherShape, Setup, Broken as CodeBroken, Small, ImageShort, ImageMark, ImageOther, ImageShape, Absent, MapFull, SlotOpen, MapSetup, BrokenMap, BadAborted}
+use Rattle.envy_memory.specs.Opened.{HasOpenFrom}
 use Rattle.envy_index_calls.specs.Scanned.{pairs_in}
-use Rattle.envy_index_calls.specs.Indexed.{Pairs, HoldsMap, HoldsSomeMap, HoldsArray, HasOpenFrom, IsShut, Serves, Rests, MayServe, Lends, Declines, Works, Asks, Looks, Leaves, LeavesOrMisses, Gets, Counts, Finds, Scans, Inserts, Removes, Blanks, Creates, DoesCreate, creation_puts, TellsValue, TellsCount, TellsPair, TellsInsert, TellsRemoval, made_code, look_code, old_of}
+use Rattle.envy_index_calls.specs.Indexed.{Pairs, HoldsMap, HoldsSomeMap, HoldsArray, IsShut, Serves, Rests, MayServe, Lends, Declines, Works, Asks, Looks, Leaves, LeavesOrMisses, Gets, Counts, Finds, Scans, Inserts, Removes, Blanks, Creates, DoesCreate, creation_puts, TellsValue, TellsCount, TellsPair, TellsInsert, TellsRemoval, made_code, look_code, old_of}
 use Rattle.envy_index_calls.specs.declared.words.TheConstants.{MOST_MAP_PAGES}
 use Rattle.envy_index_calls.specs.declared.pairs.EnvyPair.{EnvyPair}
 use Rattle.envy_index_calls.specs.declared.pairs.EnvyOld.{EnvyOld}

@@ -21,7 +21,8 @@ use Rattle.envy_memory.proofs.Ended.{shut-stands}
 use Rattle.envy_memory.proofs.Transacting.{words-held}
 use Rattle.envy_soundness.specs.Sound.{IsSound}
 use Rattle.envy_map.specs.Codes.{the_magic}
-use Rattle.envy_index_calls.specs.Indexed.{HasOpenFrom, HoldsArray, IsShut}
+use Rattle.envy_memory.specs.Opened.{HasOpenFrom}
+use Rattle.envy_index_calls.specs.Indexed.{HoldsArray, IsShut}
 use Rattle.envy_index_calls.specs.Ranges.{HasFirst, IsOpen, MayHold, MayWork, Denies, IsRange, LendsFor, first_barred}
 use Rattle.envy_index_calls.specs.declared.ranges.EnvyMap.{EnvyMap}
 use Rattle.envy_index_calls.specs.declared.ranges.Whose.{Whose}

@@ -13,6 +13,7 @@ use Rattle.envy_meaning.specs.Stands.{Stands}
 use Rattle.envy_soundness.specs.Words.{durable}
 use Rattle.envy_memory.specs.Below.{flush_programs, flush_erases}
 use Rattle.envy_memory.specs.Calls.{fresh}
+use Rattle.envy_memory.specs.Opened.{HasOpenFrom}
 use Rattle.envy_memory.specs.Picture.{Picture}
 use Rattle.envy_memory.specs.Sheets.{fixed_of}
 use Rattle.envy_btree.specs.Answers.{IsFull, IsWritten}
@@ -60,11 +61,6 @@ pub record Serves (p : Picture) (es : Pairs) : Type 0 where
 pub record Rests (p q : Picture) : Type 0 where
   pub shut : IsShut q
   pub same : durable q.chart ≡ durable p.chart
-
--- whether a slot is open, of those from one on
-abbrev pub HasOpenFrom : ℕ → Chart → Bool → Type 0
-HasOpenFrom first c true = (t : ℕ) × (first ≤ t) × (t < 64) × (slot_of c.fields t ≡ Some Active)
-HasOpenFrom first c false = (t : ℕ) → first ≤ t → t < 64 → slot_of c.fields t ≢ Some Active
 
 -- A call is made: a map fits, and no slot is open.
 pub record MayServe (p : Picture) : Type 0 where

@@ -9,7 +9,8 @@ use Rattle.envy_memory.specs.Sheets.{IsHeld}
 use Rattle.envy_range.specs.Ranges.{inside, outside}
 use Rattle.envy_calls.specs.declared.code.Code.{Code}
 use Rattle.envy_calls.specs.declared.code.Code.TheVariants.{Empty, Off, Range, Closed, SlotOpen}
-use Rattle.envy_index_calls.specs.Indexed.{HasOpenFrom, HoldsArray}
+use Rattle.envy_memory.specs.Opened.{HasOpenFrom}
+use Rattle.envy_index_calls.specs.Indexed.{HoldsArray}
 use Rattle.envy_index_calls.specs.declared.ranges.EnvyMap.{EnvyMap}
 use Rattle.envy_index_calls.specs.declared.ranges.Whose.{Whose}
 use Rattle.envy_index_calls.specs.declared.ranges.Whose.TheVariants.{New, Slot, Any}

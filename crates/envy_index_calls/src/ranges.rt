@@ -3,10 +3,11 @@ ghost use Rattle.std.specs.Prelude.{◌≡◌, ◌↔◌, ◌*◌, ◌<◌, IsTr
 ghost use Rattle.std.specs.Option.{ForSome};
 ghost use Rattle.envy_base.specs.declared.page.TheConstants.{PAGE_WORDS};
 ghost use Rattle.envy_memory.specs.Sheets.{IsHeld, sheet_of};
-ghost use Rattle.envy_index_calls.specs.Indexed.{HasOpenFrom, IsShut};
+ghost use Rattle.envy_memory.specs.Opened.{HasOpenFrom};
+ghost use Rattle.envy_index_calls.specs.Indexed.{IsShut};
 ghost use Rattle.envy_index_calls.specs.Ranges.{Denies, HasFirst, IsAnothers, IsItsOwn, IsOpen, IsPast, IsRange, LendsFor, MayHold, MayWork, first_barred};
 
-use crate::words::{MOST_MAP_PAGES, has_open_slot};
+use crate::words::MOST_MAP_PAGES;
 use envy_base::{Board, PAGE_WORDS, Slot};
 use envy_calls::Code;
 use envy_map::slot;
@@ -88,14 +89,19 @@ fn has_range<B: Board>(memory: &Memory<B>, range: Option<EnvyMap>) -> bool
 }
 
 // Why a call isn't made of a memory, if that is so.
-fn denial<B: Board>(memory: &Memory<B>, whose: Whose, range: Option<EnvyMap>) -> Option<Code>
-    requires { MayHold memory.now }
-    ensures { MatchOption result (MayWork whose range memory.now) (Denies whose range memory.now) }
+fn denial<B: Board>(
+    memory: &mut Memory<B>,
+    whose: Whose,
+    range: Option<EnvyMap>,
+) -> Option<Code>
+    requires { MayHold memory.old }
+    ensures reason { MatchOption result (MayWork whose range memory.old) (Denies whose range memory.old) }
+    ensures same { memory.new ≡ memory.old }
 {
     if !memory.powered() {
         return Some(Code::Off);
     }
-    match has_open_slot(memory.board(), first_barred(whose)) {
+    match memory.has_open_slot(first_barred(whose)) {
         Ok(false) => {}
         Ok(true) => return Some(Code::SlotOpen),
         Err(_) => return Some(Code::Off),
@@ -142,10 +148,10 @@ pub fn lend<B: Board + Drop>(
     ensures { MatchResult result (λ words. LendsFor whose range place.old place.new (Ok (words.memory, words.begun))) (λ code.
         LendsFor whose range place.old place.new (Err code)) }
 {
-    let Some(memory) = place.take() else {
+    let Some(mut memory) = place.take() else {
         return Err(Code::Empty);
     };
-    if let Some(code) = denial(&memory, whose, range) {
+    if let Some(code) = denial(&mut memory, whose, range) {
         *place = Some(memory);
         return Err(code);
     }

@@ -1,15 +1,11 @@
 // A memory as the words of a map.
 ghost use Rattle.std.specs.Prelude.{◌≡◌, ◌≢◌, Some, None, Ok, Err, IsTrue, false, MatchOption, MatchResult};
 ghost use Rattle.std.specs.Option.{ForSome};
-ghost use Rattle.envy_base.specs.Shape.{version_of};
-ghost use Rattle.envy_soundness.specs.Sound.{IsSound};
-ghost use Rattle.envy_map.specs.Fields.{chart};
-ghost use Rattle.envy_index_calls.specs.Indexed.{Declines, HasOpenFrom, HoldsArray, IsShut, Lends, MayServe};
+ghost use Rattle.envy_index_calls.specs.Indexed.{Declines, HoldsArray, IsShut, Lends, MayServe};
 ghost use Rattle.envy_memory.specs.Sheets.{sheet_of};
 
-use envy_base::{Board, Off, Slot};
+use envy_base::{Board, Off};
 use envy_calls::Code;
-use envy_map::slot;
 use envy_memory::{Memory, OneTx};
 
 // A map needs so many pages, and its changes so many shadows.
@@ -21,30 +17,17 @@ pub(crate) const LEAST_SHADOWS: u32 = 32;
 /// The most pages of an array that holds a map: no key is more than seven nodes deep in it.
 pub const MOST_MAP_PAGES: u32 = 1 << 24;
 
-/// Whether one of the 64 slots is open, of those from one on.
-pub fn has_open_slot<B: Board>(board: &B, first: u8) -> Result<bool, Off>
-    requires sound { IsSound (chart (B.state board.now)) }
-    requires version { (chart (B.state board.now)).fields.version ≡ version_of (B.state board.now).shape }
-    ensures { MatchResult result (HasOpenFrom first (chart (B.state board.now))) (λ _. (B.state board.now).on ≡ false) }
-{
-    for t in first..64 {
-        if slot(board, t)? == Slot::Active {
-            return Ok(true);
-        }
-    }
-    Ok(false)
-}
-
 // Why the calls of a map aren't made of a memory, if that is so.
-fn refusal<B: Board>(memory: &Memory<B>) -> Option<Code>
-    requires { HoldsArray memory.now }
-    ensures { MatchOption result (MayServe memory.now) (Declines memory.now) }
+fn refusal<B: Board>(memory: &mut Memory<B>) -> Option<Code>
+    requires { HoldsArray memory.old }
+    ensures reason { MatchOption result (MayServe memory.old) (Declines memory.old) }
+    ensures same { memory.new ≡ memory.old }
 {
     let shape = memory.board().shape();
     if shape.pages < LEAST_PAGES || shape.pages > MOST_MAP_PAGES || shape.shadows < LEAST_SHADOWS {
         return Some(Code::MapSetup);
     }
-    match has_open_slot(memory.board(), 0) {
+    match memory.has_open_slot(0) {
         Ok(false) => None,
         Ok(true) => Some(Code::SlotOpen),
         Err(Off) => unreachable!(),
@@ -61,10 +44,10 @@ pub fn words_of<B: Board + Drop>(slot: &mut Option<Memory<B>>) -> Result<OneTx<B
     ensures lends { MatchResult result (λ words. Lends slot.old slot.new (Ok (words.memory, words.begun))) (λ code.
         Lends slot.old slot.new (Err code)) }
 {
-    let Some(memory) = slot.take() else {
+    let Some(mut memory) = slot.take() else {
         return Err(Code::Empty);
     };
-    if let Some(code) = refusal(&memory) {
+    if let Some(code) = refusal(&mut memory) {
         *slot = Some(memory);
         return Err(code);
     }

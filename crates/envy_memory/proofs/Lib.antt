@@ -18,6 +18,7 @@ pub mod PutRuns
 pub mod ReserveLemmas
 pub mod RoomLemmas
 pub mod RunSheets
+pub mod Shutting
 pub mod Slots
 pub mod Standing
 pub mod Stepped

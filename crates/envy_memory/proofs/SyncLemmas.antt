@@ -1,12 +1,13 @@
 -- A board that was brought to a disk is a memory's still.
 use Rattle.std.specs.Prelude.{Result, IsTrue}
-use Rattle.std.proofs.Common.{◌≡◌, inl, inr, ℕ, Ok, Err, sym, ◌∙◌, ap, subst}
+use Rattle.std.proofs.Common.{◌≡◌, inl, inr, ℕ, Ok, Err, false, sym, ◌∙◌, ap, subst}
 use Rattle.std.proofs.lemmas.Bool.{false≢true}
 use Rattle.envy_base.specs.declared.board.Off.{Off}
 use Rattle.envy_base.specs.State.{State, SyncNote}
 use Rattle.envy_disk.specs.Disk.{Syncs, SyncsChart, with_sync}
 use Rattle.envy_engine.specs.declared.parts.Parts.{Parts}
 use Rattle.envy_map.specs.Fields.{Chart, chart, failed}
+use Rattle.envy_memory.specs.Opened.{HasOpenFrom}
 use Rattle.envy_memory.specs.Picture.{IsMemory}
 use Rattle.envy_txn.specs.Owners.{Ownership}
 use Rattle.envy_wear.specs.Swaps.{IsQuiet}
@@ -50,3 +51,9 @@ pub synced_quiet : (c : Chart) (x : Parts) (limit quiet : ℕ) → (IsTrue c.on 
 synced_quiet c x limit quiet was new (Ok done) (on, sync, same) lit = subst (λ (d : Chart). IsQuiet d.shape d.fields limit x.reloc.since quiet) (sym same) (was on)
 synced_quiet c x limit quiet was new (Err off) (inl (dark, same)) lit = subst (λ (d : Chart). IsTrue d.on → IsQuiet d.shape d.fields limit x.reloc.since quiet) (sym same) was lit
 synced_quiet c x limit quiet was new (Err off) (inr (on, same)) lit = absurd (false≢true (sym (ap (λ (d : Chart). d.on) same) ∙ lit))
+
+-- and the slots stay closed
+pub synced_shut : (c : Chart) (k : ℕ) → (IsTrue c.on → HasOpenFrom k c false) → (new : Chart) {T : Type 0} (r : Result T Off) → SyncsChart c r new → IsTrue new.on → HasOpenFrom k new false
+synced_shut c k was new (Ok done) (on, sync, same) lit = subst (λ (d : Chart). HasOpenFrom k d false) (sym same) (was on)
+synced_shut c k was new (Err off) (inl (dark, same)) lit = subst (λ (d : Chart). IsTrue d.on → HasOpenFrom k d false) (sym same) was lit
+synced_shut c k was new (Err off) (inr (on, same)) lit = absurd (false≢true (sym (ap (λ (d : Chart). d.on) same) ∙ lit))

@@ -11,7 +11,7 @@ ghost use Rattle.envy_memory.specs.Attaching.{IsAttachable, MayAttach, Raises, I
 ghost use Rattle.envy_memory.specs.Making.{StartsAnew};
 
 use crate::faults::AttachFault;
-use crate::memory::Memory;
+use crate::memory::{Memory, SLOTS};
 use crate::new_parts::make_parts;
 use envy_base::{Board, Off};
 use envy_engine::{Parts, restart};
@@ -111,6 +111,7 @@ impl<B: Board> Memory<B> {
                 limit: setup.limit,
                 mark: setup.mark,
                 quiet: 0,
+                shut_from: SLOTS,
             }),
             Err(_) => Err((board, AttachFault::Off)),
         }

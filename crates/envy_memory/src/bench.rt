@@ -9,7 +9,7 @@ ghost use Rattle.envy_memory.specs.Picture.{counts_of};
 ghost use Rattle.envy_memory.specs.Restarts.{Restarts};
 
 use crate::faults::ReviveFault;
-use crate::memory::Memory;
+use crate::memory::{Memory, SLOTS};
 use envy_base::{Bench, PlannedFault};
 use envy_engine::restart;
 
@@ -75,6 +75,7 @@ impl<B: Bench> Memory<B> {
             return Err(ReviveFault::Dead);
         }
         self.quiet = 0;
+        self.shut_from = SLOTS;
         restart(&mut self.board, &mut self.parts)?;
         self.owned.forget();
         Ok(())

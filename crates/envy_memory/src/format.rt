@@ -9,7 +9,7 @@ ghost use Rattle.envy_memory.specs.Formats.{MayFormat, Makes, CountsFormat, Refu
 ghost use Rattle.envy_memory.specs.Making.{StartsAnew};
 
 use crate::faults::FormatFault;
-use crate::memory::Memory;
+use crate::memory::{Memory, SLOTS};
 use crate::new_parts::make_parts;
 use envy_base::{Board, Trouble};
 use envy_engine::{Parts, rebuild};
@@ -82,6 +82,7 @@ impl<B: Board> Memory<B> {
                 limit: setup.limit,
                 mark: setup.mark,
                 quiet: 0,
+                shut_from: SLOTS,
             }),
             Err(Trouble::Off) => Err((board, FormatFault::Off)),
             Err(Trouble::Bad) => Err((board, FormatFault::Bad)),

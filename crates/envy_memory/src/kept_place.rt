@@ -1,10 +1,10 @@
-ghost use Rattle.std.specs.Prelude.{◌≡◌, ◌<◌, false, Some, MatchResult, OnErr, IfOk};
+ghost use Rattle.std.specs.Prelude.{◌≡◌, ◌<◌, ◌≤◌, false, Some, MatchResult, OnErr, IfOk};
 ghost use Rattle.envy_base.specs.Shape.{version_of};
 ghost use Rattle.envy_map.specs.Fields.{chart};
 ghost use Rattle.envy_soundness.specs.Sound.{IsSound};
 ghost use Rattle.envy_soundness.specs.Words.{kept};
 ghost use Rattle.envy_engine.specs.Pages.{InRange};
-ghost use Rattle.envy_memory.specs.Opened.{IsFirstOpen};
+ghost use Rattle.envy_memory.specs.Opened.{HasOpenAmong, IsFirstOpen};
 
 use envy_base::{Board, Off, Place, Slot, Undo};
 use envy_map::{place, slot, undo};
@@ -42,4 +42,19 @@ pub fn lowest_open<B: Board>(board: &B) -> Result<Option<u8>, Off>
         }
     }
     Ok(None)
+}
+
+/// Whether a slot is open, of those from one on up to another.
+pub fn has_open_among<B: Board>(board: &B, first: u8, end: u8) -> Result<bool, Off>
+    requires sound { IsSound (chart (B.state board.now)) }
+    requires version { (chart (B.state board.now)).fields.version ≡ version_of (B.state board.now).shape }
+    requires few { end ≤ 64 }
+    ensures { MatchResult result (HasOpenAmong first end (chart (B.state board.now))) (λ _. (B.state board.now).on ≡ false) }
+{
+    for t in first..end {
+        if slot(board, t)? == Slot::Active {
+            return Ok(true);
+        }
+    }
+    Ok(false)
 }

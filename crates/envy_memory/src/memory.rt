@@ -18,6 +18,9 @@ use envy_engine::{Parts, word};
 use envy_txn::Owned;
 use std::marker::Model;
 
+/// How many slots there are.
+pub(crate) const SLOTS: u8 = 64;
+
 /// A memory over a board. Addresses count words of 64 bits; 32 words make a page.
 #[derive(Drop)]
 pub struct Memory<B: Board> {
@@ -28,19 +31,22 @@ pub struct Memory<B: Board> {
     pub(crate) mark: u32,
     /// No swap is due before so many erases have begun since the last one.
     pub(crate) quiet: u64,
+    /// No slot from this one on is open.
+    pub(crate) shut_from: u8,
 }
 
 impl<B: Board> Model for Memory<B> {
     ghost use Rattle.envy_map.specs.Fields.{chart};
-    ghost use Rattle.std.specs.Prelude.{IsTrue};
+    ghost use Rattle.std.specs.Prelude.{IsTrue, false};
     ghost use Rattle.envy_wear.specs.Swaps.{IsQuiet};
+    ghost use Rattle.envy_memory.specs.Opened.{HasOpenFrom};
     ghost use Rattle.envy_memory.specs.Picture.{Picture, IsMemory};
 
     ghost Value = { Picture };
 
     ghost view = { λ a. record { chart = chart (B.state a.board); parts = a.parts; owned = a.owned; limit = a.limit; mark = a.mark; sram = (B.state a.board).sram } };
 
-    ghost invariant = { λ a. IsMemory (chart (B.state a.board)) a.parts a.owned a.limit a.mark × (IsTrue (B.state a.board).on → IsQuiet (B.state a.board).shape (chart (B.state a.board)).fields a.limit a.parts.reloc.since a.quiet) };
+    ghost invariant = { λ a. IsMemory (chart (B.state a.board)) a.parts a.owned a.limit a.mark × (IsTrue (B.state a.board).on → IsQuiet (B.state a.board).shape (chart (B.state a.board)).fields a.limit a.parts.reloc.since a.quiet) × (IsTrue (B.state a.board).on → HasOpenFrom a.shut_from (chart (B.state a.board)) false) };
 }
 
 impl<B: Board> Memory<B> {
@@ -145,6 +151,7 @@ impl<B: Board> Memory<B> {
             limit: _limit,
             mark: _mark,
             quiet: _quiet,
+            shut_from: _shut_from,
         } = self;
         board
     }

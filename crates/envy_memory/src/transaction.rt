@@ -3,11 +3,11 @@ ghost use Rattle.envy_array.specs.Array.{Array};
 ghost use Rattle.envy_meaning.specs.Stands.{Stands};
 ghost use Rattle.envy_memory.specs.Below.{BeginsBelow, CommitsBelow, AbortsBelow, IsBusy, IsShut};
 ghost use Rattle.envy_memory.specs.Calls.{Begins, Commits, Aborts, IsCut, Undisturbed};
-ghost use Rattle.envy_memory.specs.Opened.{IsFirstOpen};
+ghost use Rattle.envy_memory.specs.Opened.{HasOpenFrom, IsFirstOpen};
 
 use crate::faults::{BeginFault, EndFault};
-use crate::kept_place::lowest_open;
-use crate::memory::Memory;
+use crate::kept_place::{has_open_among, lowest_open};
+use crate::memory::{Memory, SLOTS};
 use envy_base::{Board, Off};
 use envy_engine::{abort_pages, commit_pages, first_vacant, is_open, open_slot};
 
@@ -17,6 +17,23 @@ impl<B: Board> Memory<B> {
         ensures { MatchResult result (IsFirstOpen self.now.chart) (λ _. self.now.chart.on ≡ false) }
     {
         lowest_open(&self.board)
+    }
+
+    /// Whether a slot is open, of those from one on. Those that were found closed aren't read again before one of them is
+    /// opened.
+    pub fn has_open_slot(&mut self, first: u8) -> Result<bool, Off>
+        ensures open { MatchResult result (HasOpenFrom first self.old.chart) (λ _. self.old.chart.on ≡ false) }
+        ensures same { self.new ≡ self.old }
+    {
+        if !self.board.powered() {
+            return Err(Off);
+        }
+        let end = self.shut_from.min(SLOTS);
+        if has_open_among(&self.board, first, end)? {
+            return Ok(true);
+        }
+        self.shut_from = self.shut_from.min(first);
+        Ok(false)
     }
 
     /// Opens the lowest slot that isn't open.
@@ -39,6 +56,7 @@ impl<B: Board> Memory<B> {
             return Err(BeginFault::Busy);
         };
         open_slot(&mut self.board, &self.parts, &self.owned, t)?;
+        self.shut_from = self.shut_from.max(t + 1);
         Ok(t)
     }
 

@@ -15,6 +15,7 @@ use Rattle.envy_memory.specs.Picture.{Picture}
 use Rattle.envy_memory.specs.Below.{AbortsBelow, IsShut}
 use Rattle.envy_memory.specs.declared.faults.EndFault.{EndFault}
 use Rattle.envy_memory.specs.declared.faults.EndFault.TheVariants.{Off, Closed}
+use Rattle.envy_memory.proofs.Shutting.{closes-shut}
 use Rattle.envy_memory.proofs.PutAnswers.{beyond-slots}
 use Rattle.envy_memory.proofs.EndAnswers.{Answer, unlit, off-open, shut-lit, done-open, done-lit, dark-off, lit-off, dark-closed, shut-closed, open-closed, still-cut, dark-complete, headed-same, IsMemory-headed, settled-closed, aborts-refused, aborts-ended, aborts-done}
 use Rattle.envy_memory.proofs.EndLemmas.{undisturbed-on}
@@ -194,6 +195,7 @@ invariant_of-self g c =
     let o = c.in_err-abort_pages.ensures in (
       IsMemory-headed c.self.inside.limit c.self.inside.mark old.chart new old.parts c.abort_pages.new.parts old.owned c.abort_pages.new.owned c.self.invariant.0 (headed-same old.chart new o.durable) o.steady o.owners (λ on. absurd (unlit new.on o.power on)),
       λ on. absurd {A = IsQuiet new.shape new.fields c.self.inside.limit c.abort_pages.new.parts.reloc.since c.self.inside.quiet} (unlit new.on o.power on),
+      λ on. absurd (unlit new.on o.power on),
     )
 
 pub invariant_of-self-2 : goal.invariant_of-self-2
@@ -203,6 +205,7 @@ invariant_of-self-2 g c =
     let o = c.in_ok-abort_pages.ensures in (
       IsMemory-headed c.self.inside.limit c.self.inside.mark old.chart new old.parts c.abort_pages.new.parts old.owned c.abort_pages.new.owned c.self.invariant.0 (headed-same old.chart new o.durable) o.steady o.owners (λ on u. settled-closed c.args.t u old.chart new c.self.invariant.0.sound c.if-t-ge64.false o.aborts.ends.closes (c.self.invariant.0.settled (sym c.if-not-powered.ensures) u)),
       λ on. IsQuiet-still old.chart new c.self.inside.parts c.abort_pages.new.parts c.self.inside.limit c.self.inside.quiet (SameDurable.shape o.durable) (Rows.wears o.aborts.ends.rows) (ap (λ (z : Parts). z.reloc.since) o.parts) (c.self.invariant.1 (sym c.if-not-powered.ensures)),
+      λ on. closes-shut c.self.inside.shut_from c.args.t old.chart new c.self.invariant.0.sound c.if-t-ge64.false o.aborts.ends.closes (c.self.invariant.2 (sym c.if-not-powered.ensures)),
     )
 
 pub returns-clause-off : goal.returns-clause-off

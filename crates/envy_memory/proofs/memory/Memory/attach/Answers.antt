@@ -10,6 +10,7 @@ use Rattle.envy_policy.specs.Setup.{IsSetup}
 use Rattle.envy_txn.specs.Owners.{Ownership}
 use Rattle.envy_memory.specs.Attaching.{MayAttach}
 use Rattle.envy_memory.specs.Making.{StartsAnew}
+use Rattle.envy_memory.proofs.Shutting.{shut-none}
 use Rattle.envy_memory.proofs.AttachLemmas.{Fits-attached, kept-shape, IsMemory-settled, IsStarted-anew, Stands-settled}
 use Rattle.envy_engine.proofs.WearLemmas.{IsQuiet-none}
 use Rattle.envy_memory.proofs.memory.Memory.attach.Goals as goal
@@ -34,6 +35,7 @@ invariant_of-result g c =
       IsMemory-settled new c.take_up.new.parts c.in-Ok.owned c.args.setup.limit c.args.setup.mark (Kept.magic o.kept ∙ (MayAttach.formatted may).0) o.version o.ready o.settled
           (ap (λ (z : Ownership). z.pairs) c.in-Ok.ensures.owned) (ap (λ (z : Ownership). z.limit) c.in-Ok.ensures.owned ∙ ap (λ (sh : Shape). sh.shadows) (sym shape)) (IsSetup.limit sizes) (IsSetup.mark sizes),
       λ on. IsQuiet-none new.shape new.fields c.args.setup.limit c.take_up.new.parts.reloc.since 0 refl,
+      λ on. shut-none new,
     )
 
 pub returns-in-Ok-take_up : goal.returns-in-Ok-take_up

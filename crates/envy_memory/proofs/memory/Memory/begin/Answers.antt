@@ -1,4 +1,4 @@
-use Rattle.std.proofs.Common.{Bool, ◌≡◌, ◌≢◌, ◌∙◌, ℕ, ◌<◌, List, false, Option, Some, None, Ok, Err, refl, sym, subst, ap}
+use Rattle.std.proofs.Common.{arith, max, Bool, ◌≡◌, ◌≢◌, ◌∙◌, ℕ, ◌<◌, List, false, Option, Some, None, Ok, Err, refl, sym, subst, ap}
 use Rattle.std.specs.Prelude.{IsTrue, Result, ◌↔◌}
 use Rattle.std.proofs.lemmas.Bool.{false≢true}
 use Rattle.std.proofs.lemmas.Result.{err_from_is_err_and}
@@ -12,6 +12,7 @@ use Rattle.envy_soundness.specs.Sound.{IsSound, Sound, Slots}
 use Rattle.envy_meaning.specs.Stands.{Stands}
 use Rattle.envy_soundness.proofs.Composition.{cause}
 use Rattle.envy_meaning.proofs.Ending.{none-closed, IsLost-begin, Steps-begin}
+use Rattle.envy_memory.proofs.Shutting.{opens-shut}
 use Rattle.envy_memory.proofs.Slots.{slot-low}
 use Rattle.envy_memory.specs.Below.{BeginsBelow, IsBusy}
 use Rattle.envy_memory.specs.Calls.{IsCut, Undisturbed}
@@ -230,6 +231,7 @@ invariant_of-self g c =
     let e = c.open_slot.ensures in (
       IsMemory-headed c.self.inside.limit c.self.inside.mark old.chart new old.parts old.parts old.owned old.owned c.self.invariant.0 (headed-words old.chart new e.same) e.steady (record { limit = refl; agree = e.owners }) (λ on. absurd (unlit new.on c.in_err-open_slot.ensures.power on)),
       λ on. absurd {A = IsQuiet new.shape new.fields c.self.inside.limit c.self.inside.parts.reloc.since c.self.inside.quiet} (unlit new.on c.in_err-open_slot.ensures.power on),
+      λ on. absurd (unlit new.on c.in_err-open_slot.ensures.power on),
     )
 
 pub invariant_of-self-2 : goal.invariant_of-self-2
@@ -239,6 +241,7 @@ invariant_of-self-2 g c =
     let e = c.open_slot.ensures in (
       IsMemory-headed c.self.inside.limit c.self.inside.mark old.chart new old.parts old.parts old.owned old.owned c.self.invariant.0 (headed-words old.chart new e.same) e.steady (record { limit = refl; agree = e.owners }) (λ on u. settled-set c.in-Some.t u Active old.chart new c.self.invariant.0.sound (c.in_ok-t.ensures.low c.in-Some.t c.in-Some.is).0 active-settled (ap (λ (z : Chart). z.fields.slots) c.in_ok-open_slot.ensures.fields) (c.self.invariant.0.settled (sym c.if-not-powered.ensures) u)),
       λ on. IsQuiet-still old.chart new c.self.inside.parts c.self.inside.parts c.self.inside.limit c.self.inside.quiet (SameWords.shape c.open_slot.ensures.same) (ap (λ (z : Chart). z.fields.wears) c.in_ok-open_slot.ensures.fields) refl (c.self.invariant.1 (sym c.if-not-powered.ensures)),
+      λ on. opens-shut c.self.inside.shut_from (max c.self.inside.shut_from (c.in-Some.t + 1)) c.in-Some.t old.chart new c.self.invariant.0.sound (c.in_ok-t.ensures.low c.in-Some.t c.in-Some.is).0 (ap (λ (z : Chart). z.fields.slots) c.in_ok-open_slot.ensures.fields) (omega arith) (omega arith) (c.self.invariant.2 (sym c.if-not-powered.ensures)),
     )
 
 pub returns-clause-off : goal.returns-clause-off
@@ -256,3 +259,6 @@ returns-clause-below g c =
     let new = chart (g.B.Board.state c.open_slot.new.board) in
     let now : Picture = record { chart = new; parts = c.self.inside.parts; owned = c.self.inside.owned; limit = c.self.inside.limit; mark = c.self.inside.mark; sram = (g.B.Board.state c.open_slot.new.board).sram } in
     subst (λ (p : Picture). BeginsBelow (Ok c.in-Some.t) p now) c.self.view_is (opened c.in-Some.t old new (sym c.if-not-powered.ensures) (headed-words old.chart new c.open_slot.ensures.same) c.in_ok-open_slot.ensures.fields)
+
+pub overflow_add-t : goal.overflow_add-t
+overflow_add-t g c = let low = (c.in_ok-t.ensures.low c.in-Some.t c.in-Some.is).0 in omega (arith, low)

@@ -2,7 +2,7 @@ use Rattle.std.proofs.Common.{◌≡◌, ℕ, List, ap, subst}
 use Rattle.envy_disk.specs.Disk.{SyncsChart}
 use Rattle.envy_map.specs.Fields.{chart}
 use Rattle.envy_memory.specs.Picture.{Picture}
-use Rattle.envy_memory.proofs.SyncLemmas.{synced_chart, synced_memory, synced_quiet, synced_sram}
+use Rattle.envy_memory.proofs.SyncLemmas.{synced_chart, synced_memory, synced_quiet, synced_shut, synced_sram}
 use Rattle.envy_memory.proofs.memory.Memory.compact.Goals as goal
 
 pub invariant_of-self : goal.invariant_of-self
@@ -11,7 +11,7 @@ invariant_of-self g c =
     let old = g.B.Board.state m.board in
     let new = g.B.Board.state c.compact.new.self in
     let synced = synced_chart old new c.compact.result c.compact.ensures.answer in
-    (synced_memory (chart old) m.parts m.owned m.limit m.mark c.self.invariant.0 (chart new) c.compact.result synced, synced_quiet (chart old) m.parts m.limit m.quiet c.self.invariant.1 (chart new) c.compact.result synced)
+    (synced_memory (chart old) m.parts m.owned m.limit m.mark c.self.invariant.0 (chart new) c.compact.result synced, synced_quiet (chart old) m.parts m.limit m.quiet c.self.invariant.1 (chart new) c.compact.result synced, synced_shut (chart old) m.shut_from c.self.invariant.2 (chart new) c.compact.result synced)
 
 pub returns-clause-answer : goal.returns-clause-answer
 returns-clause-answer g c =

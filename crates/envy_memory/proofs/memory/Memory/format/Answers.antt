@@ -10,6 +10,7 @@ use Rattle.envy_policy.specs.Setup.{IsSetup}
 use Rattle.envy_txn.specs.Owners.{Ownership}
 use Rattle.envy_memory.specs.Formats.{MayFormat}
 use Rattle.envy_memory.specs.Making.{StartsAnew}
+use Rattle.envy_memory.proofs.Shutting.{shut-none}
 use Rattle.envy_memory.proofs.AttachLemmas.{Fits-new, IsMemory-settled, IsStarted-anew}
 use Rattle.envy_memory.proofs.FormatLemmas.{Holds-empty, between, empty-own, settled}
 use Rattle.envy_memory.proofs.memory.Memory.format.Goals as goal
@@ -33,6 +34,7 @@ invariant_of-result g c =
           (ap (λ (z : Ownership). z.limit) c.in-Ok.ensures.owned ∙ ap (λ (sh : Shape). sh.shadows) (sym (o.shape ∙ MayFormat.shape may)))
           (IsSetup.limit sizes) (IsSetup.mark sizes),
       λ on. IsQuiet-none new.shape new.fields c.args.setup.limit c.lay_out.new.parts.reloc.since 0 refl,
+      λ on. shut-none new,
     )
 
 pub returns-in-Ok-lay_out-clause-made : goal.returns-in-Ok-lay_out-clause-made

@@ -154,6 +154,7 @@ invariant_of-self-2 g c =
     let old = chart (g.B.Board.state c.self.inside.board) in (
       IsMemory-cache c.self.inside.limit c.self.inside.mark old c.self.inside.parts c.self.inside.owned c.translate.new.self c.self.invariant.0 c.in_ok-from.ensures.size c.in_ok-from.ensures.agrees,
       c.self.invariant.1,
+      c.self.invariant.2,
     )
 
 pub returns-clause-off : goal.returns-clause-off

@@ -9,6 +9,8 @@ use Rattle.envy_meaning.specs.Stands.{Stands}
 use Rattle.envy_soundness.proofs.Composition.{cause}
 use Rattle.envy_txn.specs.Owners.{owner_of}
 use Rattle.envy_meaning.proofs.Ending.{closed-inactive, closed-past}
+use Rattle.envy_memory.specs.Opened.{HasOpenFrom}
+use Rattle.envy_memory.proofs.Shutting.{shut-as, shut-first}
 use Rattle.envy_memory.proofs.Slots.{slot-low}
 use Rattle.envy_engine.specs.Storing.{Leaves}
 use Rattle.envy_engine.proofs.StoreLemmas.{Leaves-wrote}
@@ -53,6 +55,7 @@ caused g c = cause _ 6 _ _ (Leaves.counted (leaves g c))
 
 kept : (g : Over) (c : After-store_word g) → IsMemory (chart (g.B.Board.state c.store_word.new.board)) c.store_word.new.parts c.self.inside.owned c.self.inside.limit c.self.inside.mark
     × (IsTrue (g.B.Board.state c.store_word.new.board).on → IsQuiet (g.B.Board.state c.store_word.new.board).shape (chart (g.B.Board.state c.store_word.new.board)).fields c.self.inside.limit c.store_word.new.parts.reloc.since c.self.inside.quiet)
+    × (IsTrue (g.B.Board.state c.store_word.new.board).on → HasOpenFrom c.self.inside.shut_from (chart (g.B.Board.state c.store_word.new.board)) false)
 kept g c =
     let old = chart (g.B.Board.state c.self.inside.board) in
     let new = chart (g.B.Board.state c.store_word.new.board) in
@@ -60,6 +63,7 @@ kept g c =
     let l = leaves g c in (
       IsMemory-left _ 6 c.self.inside.limit c.self.inside.mark old new c.self.inside.parts c.store_word.new.parts c.self.inside.owned (sym c.if-not-powered.ensures) c.self.invariant.0 l e.steady,
       λ on. IsQuiet-counted old new c.self.inside.parts c.store_word.new.parts c.self.inside.limit c.self.inside.quiet (Framed.shape (Leaves.framed l)) (Leaves.worn l) e.counting on (c.self.invariant.1 (sym c.if-not-powered.ensures)),
+      λ on. shut-as c.self.inside.shut_from old new (Framed.slots (Leaves.framed l)) (c.self.invariant.2 (sym c.if-not-powered.ensures)),
     )
 
 worked : (g : Over) (c : After-store_word g) → Worked (c.args.a / 32) (record { chart = chart (g.B.Board.state c.self.inside.board); parts = c.self.inside.parts; owned = c.self.inside.owned; limit = c.self.inside.limit; mark = c.self.inside.mark; sram = (g.B.Board.state c.self.inside.board).sram }) (chart (g.B.Board.state c.store_word.new.board)) c.store_word.new.parts
@@ -84,6 +88,7 @@ worked-first g c =
 
 kept-first : (g : Over) (c : After-put_first g) → IsMemory (chart (g.B.Board.state c.put_first.new.board)) c.put_first.new.parts c.put_first.new.owned c.self.inside.limit c.self.inside.mark
     × (IsTrue (g.B.Board.state c.put_first.new.board).on → IsQuiet (g.B.Board.state c.put_first.new.board).shape (chart (g.B.Board.state c.put_first.new.board)).fields c.self.inside.limit c.put_first.new.parts.reloc.since c.self.inside.quiet)
+    × (IsTrue (g.B.Board.state c.put_first.new.board).on → HasOpenFrom c.self.inside.shut_from (chart (g.B.Board.state c.put_first.new.board)) false)
 kept-first g c =
     let old = chart (g.B.Board.state c.self.inside.board) in
     let new = chart (g.B.Board.state c.put_first.new.board) in
@@ -91,6 +96,7 @@ kept-first g c =
     let works = Worked.works (worked-first g c) in (
       IsMemory-first _ 6 c.self.inside.limit c.self.inside.mark c.args.t (c.args.a / 32) old new c.self.inside.parts c.put_first.new.parts c.self.inside.owned c.put_first.new.owned (32 * (c.args.a / 32) + c.args.a % 32) c.args.value c.put_first.result (sym c.if-not-powered.ensures) c.self.invariant.0 e.put e.steady e.owners.agree e.owners.limit,
       λ on. IsQuiet-counted old new c.self.inside.parts c.put_first.new.parts c.self.inside.limit c.self.inside.quiet (Works.shape works) (Works.worn works) e.counting on (c.self.invariant.1 (sym c.if-not-powered.ensures)),
+      shut-first c.self.inside.shut_from _ 6 c.args.t (c.args.a / 32) old new (32 * (c.args.a / 32) + c.args.a % 32) c.args.value c.put_first.result e.put (c.self.invariant.2 (sym c.if-not-powered.ensures)),
     )
 
 pub invariant_of-self : goal.invariant_of-self

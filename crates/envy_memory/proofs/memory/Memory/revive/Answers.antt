@@ -11,6 +11,7 @@ use Rattle.envy_soundness.proofs.Composition.{cause}
 use Rattle.envy_txn.specs.Owners.{Ownership}
 use Rattle.envy_memory.specs.Calls.{fresh}
 use Rattle.envy_memory.specs.Picture.{Picture}
+use Rattle.envy_memory.proofs.Shutting.{shut-none}
 use Rattle.envy_memory.proofs.AttachLemmas.{IsMemory-settled, Stands-settled}
 use Rattle.envy_engine.proofs.WearLemmas.{IsQuiet-none}
 use Rattle.envy_memory.proofs.memory.Memory.revive.Goals as goal
@@ -42,6 +43,7 @@ invariant_of-self-2 g c =
     let shadows = ap (λ (z : Ownership). z.limit) c.forget.ensures ∙ i.shadows ∙ ap (λ (sh : Shape). sh.shadows) (sym shape) in (
       IsMemory-settled new c.restart.new.parts c.forget.new.self c.self.inside.limit c.self.inside.mark magic version o.ready o.restarts.settled none shadows i.some_limit i.some,
       λ on. IsQuiet-none new.shape new.fields c.self.inside.limit c.restart.new.parts.reloc.since 0 refl,
+      λ on. shut-none new,
     )
 
 pub returns-clause-ok : goal.returns-clause-ok

@@ -1,4 +1,4 @@
-use Rattle.std.proofs.Common.{◌≡◌, IsTrue, None, ◌∙◌, ◌<◌, ◌*◌, ◌+◌, ◌/◌, ◌%◌, Ok, Err, refl, sym, subst, ap, arith}
+use Rattle.std.proofs.Common.{false, ◌≡◌, IsTrue, None, ◌∙◌, ◌<◌, ◌*◌, ◌+◌, ◌/◌, ◌%◌, Ok, Err, refl, sym, subst, ap, arith}
 use Rattle.std.proofs.lemmas.Result.{err_from_is_err_and}
 use Rattle.envy_base.specs.declared.shape.Shape.{Shape}
 use Rattle.envy_map.specs.Fields.{chart}
@@ -14,6 +14,8 @@ use Rattle.envy_memory.specs.Below.{StoresBelow}
 use Rattle.envy_memory.specs.Calls.{IsCut, Undisturbed}
 use Rattle.envy_memory.specs.Faults.{store_fault}
 use Rattle.envy_memory.specs.Picture.{Picture, IsMemory}
+use Rattle.envy_memory.specs.Opened.{HasOpenFrom}
+use Rattle.envy_memory.proofs.Shutting.{shut-as}
 use Rattle.envy_memory.proofs.Below.{Worked, below-stored, below-store_ended}
 use Rattle.envy_memory.proofs.Owning.{IsMemory-left, Works-left, Stores-done, Stores-ended, owner-pairs, free-pairs}
 use Rattle.envy_memory.proofs.Standing.{beyond, inside}
@@ -38,6 +40,7 @@ caused g c = cause _ 6 _ _ (Leaves.counted (leaves g c))
 
 kept : (g : Over) (c : After-store_word g) → IsMemory (chart (g.B.Board.state c.store_word.new.board)) c.store_word.new.parts c.self.inside.owned c.self.inside.limit c.self.inside.mark
     × (IsTrue (g.B.Board.state c.store_word.new.board).on → IsQuiet (g.B.Board.state c.store_word.new.board).shape (chart (g.B.Board.state c.store_word.new.board)).fields c.self.inside.limit c.store_word.new.parts.reloc.since c.self.inside.quiet)
+    × (IsTrue (g.B.Board.state c.store_word.new.board).on → HasOpenFrom c.self.inside.shut_from (chart (g.B.Board.state c.store_word.new.board)) false)
 kept g c =
     let old = chart (g.B.Board.state c.self.inside.board) in
     let new = chart (g.B.Board.state c.store_word.new.board) in
@@ -45,6 +48,7 @@ kept g c =
     let l = leaves g c in (
       IsMemory-left _ 6 c.self.inside.limit c.self.inside.mark old new c.self.inside.parts c.store_word.new.parts c.self.inside.owned (sym c.if-not-powered.ensures) c.self.invariant.0 l e.steady,
       λ on. IsQuiet-counted old new c.self.inside.parts c.store_word.new.parts c.self.inside.limit c.self.inside.quiet (Framed.shape (Leaves.framed l)) (Leaves.worn l) e.counting on (c.self.invariant.1 (sym c.if-not-powered.ensures)),
+      λ on. shut-as c.self.inside.shut_from old new (Framed.slots (Leaves.framed l)) (c.self.invariant.2 (sym c.if-not-powered.ensures)),
     )
 
 worked : (g : Over) (c : After-store_word g) → Worked (c.args.a / 32) (record { chart = chart (g.B.Board.state c.self.inside.board); parts = c.self.inside.parts; owned = c.self.inside.owned; limit = c.self.inside.limit; mark = c.self.inside.mark; sram = (g.B.Board.state c.self.inside.board).sram }) (chart (g.B.Board.state c.store_word.new.board)) c.store_word.new.parts

@@ -6,6 +6,7 @@ use Rattle.envy_engine.proofs.Leaving.{powers_both}
 use Rattle.envy_memory.specs.Below.{TicksBelow}
 use Rattle.envy_memory.specs.Calls.{IsCut, Undisturbed}
 use Rattle.envy_memory.specs.Picture.{Picture}
+use Rattle.envy_memory.proofs.Shutting.{shut-ticked}
 use Rattle.envy_memory.proofs.Below.{Ticked, below-ticked}
 use Rattle.envy_memory.proofs.EndLemmas.{undisturbed-on}
 use Rattle.envy_memory.proofs.TickLemmas.{IsMemory-ticked, Ticks-all, counted-once, undisturbed-bad}
@@ -36,7 +37,7 @@ invariant_of-self g c =
     let old = chart (g.B.Board.state c.self.inside.board) in
     let new = chart (g.B.Board.state c.tick_ruled.new.board) in
     let was = c.self.inside in
-    (IsMemory-ticked was.limit was.mark old new was.parts c.tick_ruled.new.parts was.owned (sym c.if-not-powered.ensures) c.self.invariant.0 c.tick_ruled.ensures.step c.tick_ruled.ensures.steady, c.tick_ruled.ensures.quiet)
+    (IsMemory-ticked was.limit was.mark old new was.parts c.tick_ruled.new.parts was.owned (sym c.if-not-powered.ensures) c.self.invariant.0 c.tick_ruled.ensures.step c.tick_ruled.ensures.steady, c.tick_ruled.ensures.quiet, λ on. shut-ticked was.shut_from old new c.tick_ruled.ensures.step (c.self.invariant.2 (sym c.if-not-powered.ensures)))
 
 pub returns-clause-below : goal.returns-clause-below
 returns-clause-below g c =
