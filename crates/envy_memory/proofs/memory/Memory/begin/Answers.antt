@@ -1,4 +1,4 @@
-use Rattle.std.proofs.Common.{arith, max, Bool, ◌≡◌, ◌≢◌, ◌∙◌, ℕ, ◌<◌, List, false, Option, Some, None, Ok, Err, refl, sym, subst, ap}
+use Rattle.std.proofs.Common.{arith, Bool, ◌≡◌, ◌≢◌, ◌∙◌, ℕ, ◌<◌, List, false, Option, Some, None, Ok, Err, refl, sym, subst, ap}
 use Rattle.std.specs.Prelude.{IsTrue, Result, ◌↔◌}
 use Rattle.std.proofs.lemmas.Bool.{false≢true}
 use Rattle.std.proofs.lemmas.Result.{err_from_is_err_and}
@@ -241,7 +241,7 @@ invariant_of-self-2 g c =
     let e = c.open_slot.ensures in (
       IsMemory-headed c.self.inside.limit c.self.inside.mark old.chart new old.parts old.parts old.owned old.owned c.self.invariant.0 (headed-words old.chart new e.same) e.steady (record { limit = refl; agree = e.owners }) (λ on u. settled-set c.in-Some.t u Active old.chart new c.self.invariant.0.sound (c.in_ok-t.ensures.low c.in-Some.t c.in-Some.is).0 active-settled (ap (λ (z : Chart). z.fields.slots) c.in_ok-open_slot.ensures.fields) (c.self.invariant.0.settled (sym c.if-not-powered.ensures) u)),
       λ on. IsQuiet-still old.chart new c.self.inside.parts c.self.inside.parts c.self.inside.limit c.self.inside.quiet (SameWords.shape c.open_slot.ensures.same) (ap (λ (z : Chart). z.fields.wears) c.in_ok-open_slot.ensures.fields) refl (c.self.invariant.1 (sym c.if-not-powered.ensures)),
-      λ on. opens-shut c.self.inside.shut_from (max c.self.inside.shut_from (c.in-Some.t + 1)) c.in-Some.t old.chart new c.self.invariant.0.sound (c.in_ok-t.ensures.low c.in-Some.t c.in-Some.is).0 (ap (λ (z : Chart). z.fields.slots) c.in_ok-open_slot.ensures.fields) (omega arith) (omega arith) (c.self.invariant.2 (sym c.if-not-powered.ensures)),
+      λ on. opens-shut c.self.inside.shut_from c.max-self-inside.result c.in-Some.t old.chart new c.self.invariant.0.sound (c.in_ok-t.ensures.low c.in-Some.t c.in-Some.is).0 (ap (λ (z : Chart). z.fields.slots) c.in_ok-open_slot.ensures.fields) (omega (arith, c.max-self-inside.ensures)) (omega (arith, c.max-self-inside.ensures)) (c.self.invariant.2 (sym c.if-not-powered.ensures)),
     )
 
 pub returns-clause-off : goal.returns-clause-off
