@@ -89,11 +89,7 @@ fn has_range<B: Board>(memory: &Memory<B>, range: Option<EnvyMap>) -> bool
 }
 
 // Why a call isn't made of a memory, if that is so.
-fn denial<B: Board>(
-    memory: &mut Memory<B>,
-    whose: Whose,
-    range: Option<EnvyMap>,
-) -> Option<Code>
+fn denial<B: Board>(memory: &mut Memory<B>, whose: Whose, range: Option<EnvyMap>) -> Option<Code>
     requires { MayHold memory.old }
     ensures reason { MatchOption result (MayWork whose range memory.old) (Denies whose range memory.old) }
     ensures same { memory.new ≡ memory.old }
