@@ -1,3 +1,4 @@
+pub mod Halving
 pub mod Keeping
 pub mod Owning
 pub mod Total

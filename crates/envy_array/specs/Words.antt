@@ -7,6 +7,7 @@ use Rattle.envy_base.specs.declared.board.Off.{Off}
 use Rattle.envy_base.specs.declared.board.Trouble.{Trouble}
 use Rattle.envy_base.specs.declared.board.Trouble.TheVariants.{Off as TroubleOff, Bad}
 use Rattle.envy_base.specs.declared.page.TheConstants.{PAGE_WORDS}
+use Rattle.envy_array.specs.declared.words.KeyPlace.{KeyPlace}
 
 -- flash operations: rows programmed, and segments erased
 pub record Work : Type 0 where
@@ -89,6 +90,25 @@ run_at words a n = take n (drop a words)
 abbrev pub LoadsRun : Sheet → ℕ → List ℕ → Result Unit Off → Sheet → Type 0
 LoadsRun old a run (Ok done) new = (IsTrue old.on → IsTrue new.on) × (run ≡ run_at old.words a (length run)) × (new.words ≡ old.words) × (new.pages ≡ old.pages)
 LoadsRun old a run (Err off) new = new.on ≡ false
+
+-- The place of a key among n words, by the words beside it: from new_low to new_top there is no other of them but new_low
+-- itself. Where no word is on that side, it is the bound that there was.
+pub record IsPlaceIn (word : ℕ → ℕ) (n key low top index new_low new_top : ℕ) : Type 0 where
+  pub within : index ≤ n
+  pub above : new_low ≤ key
+  pub below : key ≤ new_top
+  pub first : index ≡ 0 → new_low ≡ low
+  pub bottom : (i : ℕ) → index ≡ i + 1 → new_low ≡ word i
+  pub last : index ≡ n → new_top ≡ top
+  pub ceiling : index < n → word index ≡ new_top + 1
+
+-- the same of n of the words, from address a on
+abbrev pub IsPlace : List ℕ → ℕ → ℕ → ℕ → ℕ → ℕ → ℕ → ℕ → ℕ → Type 0
+IsPlace words a n key low top index new_low new_top = IsPlaceIn (λ i. slice_index words (a + i)) n key low top index new_low new_top
+
+abbrev pub Searches : Sheet → ℕ → ℕ → ℕ → ℕ → ℕ → Result KeyPlace Off → Sheet → Type 0
+Searches old a n key low top (Ok x) new = (IsTrue old.on → IsTrue new.on) × IsPlace old.words a n key low top x.index x.low x.top × (new.words ≡ old.words) × (new.pages ≡ old.pages)
+Searches old a n key low top (Err off) new = new.on ≡ false
 
 abbrev pub Puts : Sheet → ℕ → ℕ → Result Unit Trouble → Sheet → Type 0
 Puts old a w (Ok done) new = IsTrue new.on × (new.words ≡ slice_set old.words a w) × IsTrue (has new.pages (a / PAGE_WORDS))

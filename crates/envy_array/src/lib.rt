@@ -14,4 +14,4 @@ pub use counts::Counts;
 pub use laws::{
     restart_keeps_the_array, step_gives_one_answer, step_keeps_the_array, zeros_are_an_array,
 };
-pub use words::Words;
+pub use words::{KeyPlace, Words};

@@ -8,6 +8,7 @@ ghost use Rattle.envy_array.specs.Words.{
   Keeps,
   Loads,
   LoadsRun,
+  Searches,
   Puts,
   PutsRun,
   Starts,
@@ -17,6 +18,15 @@ ghost use Rattle.envy_array.specs.Words.{
 };
 
 use envy_base::{Off, PAGE_WORDS, Trouble};
+
+/// The place of a key among words that rise: how many are at most it, the last of these, and the greatest number below
+/// the next.
+#[derive(Clone, Copy)]
+pub struct KeyPlace {
+    pub index: u32,
+    pub low: u64,
+    pub top: u64,
+}
 
 /// A memory of words of 64 bits, 32 to a page, with one transaction at a time. A transaction may put
 /// words in a limited number of pages. Where power fails, the transaction is undone, but one that was
@@ -53,6 +63,34 @@ pub trait Words {
             into[i] = word;
         }
         Ok(())
+    }
+
+    /// The place of a key among the `n` words from address `a` on, within one page, which are halved until it is found: of
+    /// 31 words five are read. Where none is on one side, `low` or `top` is the bound that was passed. If they don't rise,
+    /// it is a place where the words beside it fit the key.
+    fn search(&mut self, a: u32, n: u32, key: u64, low: u64, top: u64) -> Result<KeyPlace, Off>
+        requires within { a + n ≤ length (sheet self.old).words }
+        requires page { a % PAGE_WORDS + n ≤ PAGE_WORDS }
+        requires above { low ≤ key }
+        requires below { key ≤ top }
+        ensures works { Works 0 (sheet self.old) (sheet self.new) }
+        ensures spends { Spends 0 (sheet self.old) (sheet self.new) }
+        ensures answer { Searches (sheet self.old) a n key low top result (sheet self.new) }
+    {
+        let mut place = KeyPlace { index: 0, low, top };
+        let mut end = n;
+        while place.index < end {
+            let middle = place.index + (end - place.index) / 2;
+            let word = self.load(a + middle)?;
+            if key < word {
+                end = middle;
+                place.top = word - 1;
+            } else {
+                place.index = middle + 1;
+                place.low = word;
+            }
+        }
+        Ok(place)
     }
 
     /// Opens a transaction. It counts as a put, so a bound on work bounds the transactions too.

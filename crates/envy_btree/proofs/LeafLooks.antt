@@ -4,10 +4,11 @@ use Rattle.std.specs.List.{flat_map}
 use Rattle.std.proofs.lemmas.Bool.{cases_eq, cases_lt}
 use Rattle.std.proofs.lemmas.List.{append_assoc, append-nil, length-map, set-get_or}
 use Rattle.std.proofs.lemmas.List.Elements.{All-append, All-nil, All-weaker}
+use Rattle.envy_array.specs.Words.{IsPlace}
 use Rattle.envy_heap.specs.Pieces.{IsHeap, head, at}
 use Rattle.envy_btree.specs.Changes.{Rests}
 use Rattle.envy_btree.specs.Index.{IsIndex, IsPlanted, Rooted, Stands}
-use Rattle.envy_btree.specs.Looking.{IsLeaf, IsPlace, IsUnder}
+use Rattle.envy_btree.specs.Looking.{IsLeaf, IsUnder}
 use Rattle.envy_btree.specs.Pairs.{Below, Above}
 use Rattle.envy_btree.specs.Tree.{Tree, Ordered, Rising, keys_of, pairs_of, piece_of, values_of, window}
 use Rattle.envy_btree.proofs.Calls.{planted-rising}

@@ -4,8 +4,9 @@ use Rattle.std.specs.List.{All}
 use Rattle.std.proofs.lemmas.Bool.{cases_eq, cases_lt}
 use Rattle.std.proofs.lemmas.List.{append_assoc, append-nil, length-drop, length-map, length-take}
 use Rattle.std.proofs.lemmas.List.Elements.{All-append, All-cons, All-head, All-nil, All-tail, All-weaker}
+use Rattle.envy_array.specs.Words.{IsPlace}
 use Rattle.envy_heap.specs.Pieces.{at}
-use Rattle.envy_btree.specs.Looking.{IsLeaf, IsPlace, pair_at}
+use Rattle.envy_btree.specs.Looking.{IsLeaf, pair_at}
 use Rattle.envy_btree.specs.Nearest.{From, pairs_from, pairs_to}
 use Rattle.envy_btree.specs.Nodes.{Ranks}
 use Rattle.envy_btree.specs.Pairs.{assoc, Below, Above}

@@ -4,8 +4,9 @@ use Rattle.std.specs.Option.{SomeIff}
 use Rattle.std.proofs.Math.Seq.{take-append-add}
 use Rattle.std.proofs.lemmas.Bool.{cases_lt}
 use Rattle.std.proofs.lemmas.List.{append_assoc, append-nil, get_or-drop, length-append, length-drop, length-take, drop-set-lt, take-append-le, take_all, take_more, take_more_set}
+use Rattle.envy_array.specs.Words.{IsPlace}
 use Rattle.envy_heap.specs.Pieces.{at}
-use Rattle.envy_btree.specs.Looking.{IsLeaf, IsPlace, IsShown, first_of, pair_at, pairs_after, pairs_by}
+use Rattle.envy_btree.specs.Looking.{IsLeaf, IsShown, first_of, pair_at, pairs_after, pairs_by}
 use Rattle.envy_btree.specs.declared.way.Way.{Way}
 use Rattle.envy_btree.specs.declared.way.Way.TheVariants.{Up, Down}
 use Rattle.envy_btree.specs.Nearest.{pairs_from, pairs_to}

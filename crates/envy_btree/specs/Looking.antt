@@ -29,17 +29,6 @@ Sees P (Ok x) = P x
 Sees P (Err LookOff) = Unit {0}
 Sees P (Err Broken) = ⊥
 
--- The place of a key among count words from a on, by the words beside it: from new_low to new_top there is no other
--- of them but new_low itself. Where no word is on that side, it is the bound that there was.
-pub record IsPlace (ws : List ℕ) (a count key low top index new_low new_top : ℕ) : Type 0 where
-  pub within : index ≤ count
-  pub above : new_low ≤ key
-  pub below : key ≤ new_top
-  pub first : index ≡ 0 → new_low ≡ low
-  pub bottom : (i : ℕ) → index ≡ i + 1 → new_low ≡ slice_index ws (a + i)
-  pub last : index ≡ count → new_top ≡ top
-  pub ceiling : index < count → slice_index ws (a + index) ≡ new_top + 1
-
 -- The words of a map have a node in this piece, under so many levels, under which are the pairs with keys from low
 -- to top.
 pub record IsUnder (ws : List ℕ) (es : List (ℕ × ℕ)) (piece low top levels : ℕ) : Type 0 where

@@ -5,9 +5,9 @@ ghost use Rattle.envy_btree.specs.Index.{IsIndex};
 ghost use Rattle.envy_btree.specs.Looking.{IsLeaf, IsUnder, Looks, Powers, Sees};
 
 use crate::fault::LookFault;
-use crate::place::{Place, place_of};
+use crate::place::place_of;
 use crate::sizes::{HEAD_LIMIT, KEYS, LEAST_WORDS, LEVELS, PIECE_WORDS, SLOTS};
-use envy_array::Words;
+use envy_array::{KeyPlace, Words};
 
 /// A node, and the numbers from `low` to `top`: other nodes of its level have no keys of these under them.
 #[derive(Clone, Copy)]
@@ -122,7 +122,14 @@ fn child_of<W: Words>(words: &mut W, spot: Spot, count: u32, key: u64) -> Result
         → Sees (λ x. IsUnder (W.sheet words.old).words es x.piece x.low x.top (levels + 1)) result }
 {
     let node = PIECE_WORDS + PIECE_WORDS * spot.piece;
-    let Place { index, low, top } = place_of(words, node + KEYS, count, key, spot.low, spot.top)?;
+    let KeyPlace { index, low, top } = place_of(
+        words,
+        node + KEYS,
+        count,
+        key,
+        spot.low,
+        spot.top,
+    )?;
     let child = words.load(node + SLOTS + index)?;
     let piece = piece_in(words.size(), child)?;
     Ok(Spot { piece, low, top })

@@ -14,7 +14,7 @@ use envy_array::Words;
 use envy_base::Off;
 
 /// The value of a key in the map, as the words stand: if a transaction is open, with what it put. On each level the
-/// keys of one node are read, in one run. `Broken` comes only if the words stand for no map.
+/// keys of one node are halved. `Broken` comes only if the words stand for no map.
 pub fn get<W: Words>(words: &mut W, key: u64) -> Result<Option<u64>, LookFault>
     requires size { length (W.sheet words.old).words ≤ 2 ^ 29 }
     ensures works { Works 0 (W.sheet words.old) (W.sheet words.new) }

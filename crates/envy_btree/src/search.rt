@@ -64,7 +64,7 @@ fn locate<W: Words>(words: &mut W, piece: u32, level: u32, key: u64) -> Result<F
 }
 
 /// The value of a key in the map, and how many levels of inner nodes its tree has. On each level the keys of one node
-/// are read in one run.
+/// are halved.
 pub(crate) fn look_up<W: Words>(words: &mut W, key: u64) -> Result<Found, Off>
     requires size { length (W.sheet words.old).words ≤ 2 ^ 29 }
     requires map { (es : List (ℕ × ℕ)) × IsIndex (W.sheet words.old).words es }

@@ -1,12 +1,13 @@
-ghost use Rattle.std.specs.Prelude.{◌≡◌, ◌+◌, ◌-◌, ◌<◌, ◌≤◌, ◌/◌, length, slice_index, IfOk, OnOk, MatchResult, IsTrue, false};
+ghost use Rattle.std.specs.Prelude.{◌≡◌, ◌+◌, ◌-◌, ◌<◌, ◌≤◌, ◌/◌, ◌%◌, length, slice_index, IfOk, OnOk, MatchResult, IsTrue, false};
 ghost use Rattle.envy_array.specs.Words.{Spends, Works};
+ghost use Rattle.envy_base.specs.declared.page.TheConstants.{PAGE_WORDS};
 ghost use Rattle.envy_heap.specs.Pieces.{head, at};
 ghost use Rattle.envy_btree.specs.Tree.{window};
 ghost use Rattle.envy_btree.specs.Nodes.{Ranks};
 ghost use Rattle.envy_btree.specs.Spots.{Climbs, IsSpot, EndsAt, keys_at};
 
 use envy_array::Words;
-use envy_base::{Off, PAGE_LENGTH};
+use envy_base::Off;
 
 /// Where a key belongs in a node: of how many keys, which are at most the key up to this place.
 #[derive(Clone, Copy)]
@@ -16,29 +17,10 @@ pub(crate) struct Spot {
     pub(crate) place: u32,
 }
 
-// How many of these keys, which rise, are at most this one.
-fn rank_among(keys: &[u64], key: u64) -> u32
-    requires few { length keys.now ≤ 32 }
-    requires rise { Climbs keys.now 0 (length keys.now) }
-    ensures { Ranks key keys.now result }
-{
-    let mut low = 0;
-    let mut high = keys.len() as u32;
-    while low < high {
-        let middle = (low + high) / 2;
-        if keys[middle as usize] <= key {
-            low = middle + 1;
-        } else {
-            high = middle;
-        }
-    }
-    low
-}
-
-/// How many of the `n` words from `a` on, which rise, are at most this key. They are read in one run.
+/// How many of the `n` words from `a` on, which rise, are at most this key. They lie in one page.
 pub(crate) fn rank_from<W: Words>(words: &mut W, a: u32, n: u32, key: u64) -> Result<u32, Off>
-    requires few { n ≤ 31 }
     requires within { a + n ≤ length (W.sheet words.old).words }
+    requires page { a % PAGE_WORDS + n ≤ PAGE_WORDS }
     requires rise { Climbs (W.sheet words.old).words a n }
     ensures works { Works 0 (W.sheet words.old) (W.sheet words.new) }
     ensures spends { Spends 0 (W.sheet words.old) (W.sheet words.new) }
@@ -47,10 +29,8 @@ pub(crate) fn rank_from<W: Words>(words: &mut W, a: u32, n: u32, key: u64) -> Re
     ensures power { MatchResult result (λ _. IsTrue (W.sheet words.old).on → IsTrue (W.sheet words.new).on)
         (λ _. (W.sheet words.new).on ≡ false) }
 {
-    let mut keys = [0; PAGE_LENGTH];
-    let run = &mut keys[..n as usize];
-    words.load_run(a, run)?;
-    Ok(rank_among(run, key))
+    let place = words.search(a, n, key, 0, u64::MAX)?;
+    Ok(place.index)
 }
 
 /// Where a key belongs in the node in a piece.

@@ -2,6 +2,7 @@
 use Rattle.std.proofs.Common.{◌≡◌, ◌≢◌, ◌⊎◌, inl, inr, ℕ, zero, suc, ◌+◌, ◌-◌, ◌*◌, ◌/◌, ◌%◌, ◌<◌, ◌≤◌, List, length, get_or, Option, Some, Ok, refl, sym, ◌∙◌, ap, subst, arith}
 use Rattle.std.proofs.lemmas.Bool.{cases_eq}
 use Rattle.envy_array.specs.Array.{Array}
+use Rattle.envy_array.specs.Words.{IsPlace, IsPlaceIn}
 use Rattle.envy_base.specs.declared.fields.Place.{Place}
 use Rattle.envy_map.specs.Fields.{Chart, place}
 use Rattle.envy_meaning.specs.Stands.{Holds, Stands}
@@ -66,3 +67,23 @@ kept-both p r q e f = f ∙ ap (λ (m : Picture). record m { parts = record m.pa
 -- a run past the last page
 pub past-run : (c : Chart) (m : Array) (a n : ℕ) → Stands c m → 32 * c.shape.pages < a + n → length m.words ≤ a + n - 1
 past-run c m a n stands past = let long = length-stands c m stands in omega arith
+
+-- the place of a key among words of a page is that among the words that loads read
+pub place-on : (c : Chart) (a n key low top index new_low new_top : ℕ) (x : Place) → a / 32 < c.shape.pages → a % 32 + n ≤ 32 → place c.fields (a / 32) ≡ Some x
+    → IsPlaceIn (λ i. word_at c.fields.frames c.flash (Some x) (a % 32 + i)) n key low top index new_low new_top → IsPlace (live c) a n key low top index new_low new_top
+place-on c a n key low top index new_low new_top x lt few is p = record {
+  within = p.within;
+  above = p.above;
+  below = p.below;
+  first = p.first;
+  bottom = λ i e. p.bottom i e ∙ sym (live-on c a i x lt (omega (arith, few, e, p.within)) is);
+  last = p.last;
+  ceiling = λ less. live-on c a index x lt (omega (arith, few, less)) is ∙ p.ceiling less;
+}
+
+-- a run of some words within one page meets that page
+pub crosses-one : (a n : ℕ) (x y : Translations) → 0 < n → a % 32 + n ≤ 32 → Accesses (a / 32) x y → Crosses (pages_met a n) (a / 32) x y
+crosses-one a n x y some few one =
+    let count : pages_met a n ≡ 1 = let met = pages-met a n some in omega arith in
+    let here : a / 32 + 0 ≡ a / 32 = omega arith in
+    subst (λ (k : ℕ). Crosses k (a / 32) x y) (sym count) (x, refl, subst (λ (p : ℕ). Accesses p x y) (sym here) one)

@@ -46,6 +46,9 @@ run-in-range p b a n le (on, some, past) = let long = words_long (p.chart.on && 
 live-words : (p : Picture) (b : Bool) → IsTrue p.chart.on → IsHeld p.chart b → live p.chart ≡ (sheet_of p b).words
 live-words p b on h = Holds.live (Stands.holds (IsHeld.stands h)) ∙ sym (words-held p b on h)
 
+pub live-is : (p : Picture) (b : Bool) → IsTrue p.chart.on → ∥ (IsTrue p.chart.on → IsHeld p.chart b) ∥₁ → live p.chart ≡ (sheet_of p b).words
+live-is p b on held = ∥∥₁_elim held (search props) (λ hold. live-words p b on (hold on))
+
 -- the words of a run that was loaded
 pub run-words : (p : Picture) (b : Bool) (a : ℕ) (run : List ℕ) → IsTrue p.chart.on → ∥ (IsTrue p.chart.on → IsHeld p.chart b) ∥₁ → a + length run ≤ length (sheet_of p b).words → AreLive p.chart a run → run ≡ run_at (sheet_of p b).words a (length run)
 run-words p b a run on held within are = ∥∥₁_elim held (search props) (λ hold. same-words run (run_at (sheet_of p b).words a (length run)) long (λ i lt. at (hold on) i lt))

@@ -18,6 +18,7 @@ mod put;
 mod put_runs;
 mod reserves;
 mod rooms;
+mod searches;
 mod store;
 mod store_runs;
 mod sync;

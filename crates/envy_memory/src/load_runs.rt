@@ -66,7 +66,7 @@ impl<B: Board> Memory<B> {
         Ok(())
     }
 
-    // The words of a run that lies within the array, of a memory that has power, page by page.
+    // The words of a run that lies within the array, of a memory that has power: of one page at once, or page by page.
     fn load_pages(&mut self, a: u32, into: &mut [u64])
         requires on { IsTrue self.old.chart.on }
         requires some { 0 < length into.old }
@@ -78,6 +78,10 @@ impl<B: Board> Memory<B> {
         ensures kept { self.new ≡ record self.old { parts = record self.old.parts { cache = self.new.parts.cache } } }
     {
         self.invariant_holds();
+        if a % PAGE_WORDS + into.len() as u32 <= PAGE_WORDS {
+            self.load_page(a, into);
+            return;
+        }
         let last = a + (into.len() - 1) as u32;
         for page in a / PAGE_WORDS..last / PAGE_WORDS + 1 {
             self.load_part(page, a, into);

@@ -14,7 +14,7 @@ ghost use Rattle.envy_memory.specs.Sheets.{IsHeld, sheet_of};
 
 use crate::faults::{BeginFault, EndFault, LoadFault, PutFault, ReviveFault};
 use crate::memory::Memory;
-use envy_array::Words;
+use envy_array::{KeyPlace, Words};
 use envy_base::{Bench, Board, Off, PAGE_WORDS, PlannedFault, Trouble};
 
 /// A memory with one transaction at a time, which has the first slot.
@@ -176,6 +176,14 @@ impl<B: Board> Words for OneTx<B> {
     fn load_run(&mut self, a: u32, into: &mut [u64]) -> Result<(), Off> {
         match self.memory.load_run(a, into) {
             Ok(()) => Ok(()),
+            Err(LoadFault::Off) => Err(Off),
+            Err(LoadFault::Range) => unreachable!(),
+        }
+    }
+
+    fn search(&mut self, a: u32, n: u32, key: u64, low: u64, top: u64) -> Result<KeyPlace, Off> {
+        match self.memory.search(a, n, key, low, top) {
+            Ok(place) => Ok(place),
             Err(LoadFault::Off) => Err(Off),
             Err(LoadFault::Range) => unreachable!(),
         }

@@ -1,10 +1,11 @@
 -- What a view of a range keeps of the laws of the words below.
-use Rattle.std.proofs.Common.{◌≡◌, ◌⊎◌, ℕ, zero, suc, ◌+◌, ◌/◌, ◌%◌, eqb, Fits, w32, ◌<◌, ◌≤◌, Bool, true, false, IsTrue, List, ◌∷◌, ◌++◌, length, map, refl, ap, sym, subst, ◌∙◌, inl, inr, Result, Ok, Err, arith}
+use Rattle.std.proofs.Common.{◌≡◌, ◌⊎◌, ℕ, zero, suc, ◌+◌, ◌/◌, ◌%◌, eqb, Fits, w32, ◌<◌, ◌≤◌, Bool, true, false, IsTrue, List, ◌∷◌, ◌++◌, length, get_or, map, refl, ap, sym, subst, ◌∙◌, inl, inr, Result, Ok, Err, arith}
 use Rattle.std.proofs.lemmas.List.{length-map}
 use Rattle.envy_base.specs.declared.board.Off.{Off}
 use Rattle.envy_base.specs.declared.board.Trouble.{Trouble}
 use Rattle.envy_base.specs.declared.board.Trouble.TheVariants.{Off as TroubleOff, Bad}
-use Rattle.envy_array.specs.Words.{Sheet, IsSheet, Works, Spends, OnPage, Keeps, Loads, LoadsRun, Puts, PutsRun, Starts, Finishes, Undoes, has}
+use Rattle.envy_array.specs.Words.{Sheet, IsSheet, Works, Spends, OnPage, Keeps, Loads, LoadsRun, Puts, PutsRun, Searches, Starts, Finishes, Undoes, has}
+use Rattle.envy_array.specs.declared.words.KeyPlace.{KeyPlace}
 use Rattle.envy_range.specs.Ranges.{inside, outside, page_in, within}
 use Rattle.envy_range.proofs.Paged.{own-put, page-fits, page-of, put-own, still-there}
 use Rattle.envy_range.specs.Lawful.{inside-long}
@@ -135,6 +136,31 @@ loads-run-view first count a run (Err off) s t le l = l
 pub load-run-outside : (first count a : ℕ) (run : List ℕ) (r : Result Unit Off) (s t : Sheet) → LoadsRun s a run r t → IsTrue t.on → outside first count t.words ≡ outside first count s.words
 load-run-outside first count a run (Ok done) s t l on = ap (outside first count) l.2
 load-run-outside first count a run (Err off) s t l on = absurd (let clash : true ≡ false = sym on ∙ l in cc)
+
+-- the place of a key among words of a view
+pub searches-view : (first count a n key low top : ℕ) (r : Result KeyPlace Off) (s t : Sheet) → a + n ≤ count → Searches s (first + a) n key low top r t → Searches (within first count s) a n key low top r (within first count t)
+searches-view first count a n key low top (Ok x) s t le f = (
+  f.0,
+  record {
+    within = f.1.within;
+    above = f.1.above;
+    below = f.1.below;
+    first = f.1.first;
+    bottom = λ i e. f.1.bottom i e ∙ seen i (omega (arith, e, f.1.within));
+    last = f.1.last;
+    ceiling = λ lt. sym (seen x.index lt) ∙ f.1.ceiling lt;
+  },
+  ap (inside first count) f.2,
+  ap (map (page_in first count)) f.3,
+)
+  where
+    seen : (i : ℕ) → i < n → get_or s.words (first + a + i) 0 ≡ get_or (inside first count s.words) (a + i) 0
+    seen i lt = ap (λ j. get_or s.words j 0) (let e : first + a + i ≡ first + (a + i) = omega arith in e) ∙ sym (inside-at first count (a + i) s.words (omega (arith, le, lt)))
+searches-view first count a n key low top (Err off) s t le f = f
+
+pub search-outside : (first count a n key low top : ℕ) (r : Result KeyPlace Off) (s t : Sheet) → Searches s a n key low top r t → IsTrue t.on → outside first count t.words ≡ outside first count s.words
+search-outside first count a n key low top (Ok x) s t f on = ap (outside first count) f.2
+search-outside first count a n key low top (Err off) s t f on = absurd (let clash : true ≡ false = sym on ∙ f in cc)
 
 pub puts-run-view : (first count a : ℕ) (list : List ℕ) (r : Result Unit Trouble) (s t : Sheet) → first + count ≤ length s.words → a + length list ≤ count → PutsRun s (first + a) list r t → PutsRun (within first count s) a list r (within first count t)
 puts-run-view first count a list (Ok done) s t fits le p = (p.0, ap (inside first count) p.1 ∙ pasted-inside first count a (length list) list s.words fits (inside-long first count s.words fits) le (omega arith))

@@ -2,7 +2,7 @@ ghost use Rattle.std.specs.Prelude.{◌≡◌, ◌≤◌, ◌+◌, ◌%◌, leng
 ghost use Rattle.envy_base.specs.declared.page.TheConstants.{PAGE_WORDS};
 ghost use Rattle.envy_range.specs.Ranges.{within};
 
-use envy_array::Words;
+use envy_array::{KeyPlace, Words};
 use envy_base::{Off, Trouble};
 
 /// The words of a range, as a memory of words that begins at address 0. Its pages are the range's, and
@@ -69,6 +69,10 @@ impl<W: Words> Words for Within<W> {
 
     fn load_run(&mut self, a: u32, into: &mut [u64]) -> Result<(), Off> {
         self.words.load_run(self.first + a, into)
+    }
+
+    fn search(&mut self, a: u32, n: u32, key: u64, low: u64, top: u64) -> Result<KeyPlace, Off> {
+        self.words.search(self.first + a, n, key, low, top)
     }
 
     fn start(&mut self) -> Result<(), Off> {
