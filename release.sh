@@ -122,7 +122,7 @@ CONTROL
 [ -n "$from" ] || built
 archives x86_64
 clients all
-for file in envyvfs.so envyvfs_mapped.so libenvyvfs.a envy.so envy-mapped.so; do
+for file in envyvfs.so libenvyvfs.a envy.so; do
     [ ! -e "$work/clients/$file" ] || cp "$work/clients/$file" "$root/lib/x86_64"
 done
 [ -e "$root/lib/x86_64/envyvfs.so" ] || echo "release: no VFS of SQLite: libsqlite3-dev isn't here" >&2

@@ -21,33 +21,14 @@ void batch_forget(bytes *b) {
     }
 }
 
-#ifdef ENVY_CLIENT_MAPPED
-static uint32_t begin(bytes *b) { return envy_begin(&b->memory, &b->slot); }
-static uint32_t commit(bytes *b) { return envy_commit(&b->memory, b->slot); }
-
-static uint32_t undo(bytes *b) {
-    known_forget_all(b->known);
-    return envy_abort(&b->memory, b->slot);
-}
-
-static uint32_t put_in_batch(bytes *b, uint32_t address, const uint64_t *words, const uint64_t *old, size_t n) {
-    size_t done;
-    uint32_t holder;
-    (void)old;
-    return envy_write(&b->memory, b->slot, address, words, n, &done, &holder);
-}
-#endif
-
 static uint32_t put_alone(bytes *b, uint32_t address, const uint64_t *words, size_t n) {
     size_t done;
     uint32_t holder;
     return envy_store_run(&b->memory, address, words, n, &done, &holder);
 }
 
-#ifndef ENVY_CLIENT_MAPPED
-static uint32_t begin(bytes *b) { return envy_powered(&b->memory); }
-
 static uint32_t commit(bytes *b) {
+    if (b->mapped) return envy_commit(&b->memory, b->slot);
     batch_forget(b);
     return ENVY_DONE;
 }
@@ -55,12 +36,16 @@ static uint32_t commit(bytes *b) {
 static uint32_t undo(bytes *b) {
     uint32_t code = ENVY_DONE;
     known_forget_all(b->known);
+    if (b->mapped) return envy_abort(&b->memory, b->slot);
     for (const undone *u = b->undone; u && !code; u = u->before) code = put_alone(b, u->address, u->words, u->n);
     batch_forget(b);
     return code;
 }
 
 static uint32_t put_in_batch(bytes *b, uint32_t address, const uint64_t *words, const uint64_t *old, size_t n) {
+    size_t done;
+    uint32_t holder;
+    if (b->mapped) return envy_write(&b->memory, b->slot, address, words, n, &done, &holder);
     undone *last = malloc(sizeof *last + n * WORD_BYTES);
     if (!last) return ENVY_NO_MEMORY;
     *last = (undone){b->undone, address, n};
@@ -68,14 +53,13 @@ static uint32_t put_in_batch(bytes *b, uint32_t address, const uint64_t *words, 
     b->undone = last;
     return put_alone(b, address, words, n);
 }
-#endif
 
 uint32_t bytes_put(bytes *b, uint32_t address, const uint64_t *words, const uint64_t *old, size_t n) {
     return b->in_batch ? put_in_batch(b, address, words, old, n) : put_alone(b, address, words, n);
 }
 
 uint32_t bytes_begin(bytes *b) {
-    uint32_t code = begin(b);
+    uint32_t code = b->mapped ? envy_begin(&b->memory, &b->slot) : envy_powered(&b->memory);
     if (code) return code;
     b->in_batch = 1;
     b->length_first = b->length;

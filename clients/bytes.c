@@ -16,7 +16,12 @@ enum { KIND_WORD = 0, LENGTH_WORD = 1, LINE_BYTES = LINE_WORDS * WORD_BYTES, PIE
 enum { PAGE_BYTES = HEADER_WORDS * WORD_BYTES }; /* of the array */
 
 const char *bytes_text(uint32_t code) {
-    return code == BYTES_OTHER_KIND ? "the array is another program's" : envy_error_text(code);
+    switch (code) {
+    case BYTES_OTHER_KIND: return "the array is another program's";
+    case BYTES_MAPPED: return "the file is a mapped one, which mapped=1 opens";
+    case BYTES_DURABLE: return "the file is a durable one, which mapped=0 opens";
+    default: return envy_error_text(code);
+    }
 }
 
 /* A background step writes pages back from three quarters of the frames on. */
@@ -24,21 +29,19 @@ static uint32_t mark_of(uint32_t frames) { return frames - frames / 4; }
 
 /* Pages of SRAM, if none are asked for. Those of a durable file are the process's own memory, and a page that stays in one
    is neither brought in nor programmed: one page in eight of the array, 8 MiB at most. */
-static uint32_t frames_for(const envy_setup *setup) {
-#ifdef ENVY_CLIENT_MAPPED
-    return setup->frames;
-#else
+static uint32_t frames_for(const envy_setup *setup, int mapped) {
     enum { MOST_FRAMES = 32768 };
     uint32_t eighth = setup->pages / 8;
+    if (mapped) return setup->frames;
     return eighth > MOST_FRAMES ? (uint32_t)MOST_FRAMES : eighth > setup->frames ? eighth : setup->frames;
-#endif
 }
 
+/* (no batch over a durable file is a transaction, and a setup has one shadow at least) */
 static uint32_t setup_for(const bytes_options *options, envy_setup *setup) {
     uint64_t words = options->size / WORD_BYTES + (options->size % WORD_BYTES != 0);
-    uint32_t code = envy_setup_for(HEADER_WORDS + words, options->shadows, setup);
+    uint32_t code = envy_setup_for(HEADER_WORDS + words, options->mapped ? options->shadows : 1, setup);
     if (code) return code;
-    setup->frames = options->frames ? options->frames : frames_for(setup);
+    setup->frames = options->frames ? options->frames : frames_for(setup, options->mapped);
     setup->mark = mark_of(setup->frames);
     return ENVY_DONE;
 }
@@ -62,12 +65,19 @@ static uint32_t shape_of(const char *path, envy_setup *setup) {
 }
 
 static uint32_t open_file(bytes *b, const char *path, int bytewise) {
-#ifdef ENVY_CLIENT_MAPPED
-    (void)bytewise;
-    return envy_open_mapped(&b->memory, path, &b->setup, ENVY_CREATE);
-#else
+    if (b->mapped) return envy_open_mapped(&b->memory, path, &b->setup, ENVY_CREATE);
     return envy_open_file(&b->memory, path, &b->setup, ENVY_CREATE | (bytewise ? ENVY_BYTEWISE : 0));
-#endif
+}
+
+/* What is answered for a file that was refused though it has a shape. envy_file_shape finds that of either kind, and an opening
+   without a setup that of its own kind alone: if it finds none, the file is of the other kind. */
+static uint32_t refused(const char *path, int mapped, uint32_t code) {
+    envy tried = ENVY_INIT;
+    if (code >= ENVY_SYSTEM || code == ENVY_NO_MEMORY || code == ENVY_OFF) return code;
+    uint32_t again = mapped ? envy_open_mapped(&tried, path, NULL, 0) : envy_open_file(&tried, path, NULL, 0);
+    if (again == ENVY_DONE) envy_leave(&tried);
+    if (again == ENVY_NO_JOURNAL) return BYTES_MAPPED;
+    return again == ENVY_UNFORMATTED || again == ENVY_OLDER ? (uint32_t)BYTES_DURABLE : code;
 }
 
 /* Whether all words of the array are zeros. */
@@ -102,14 +112,14 @@ static uint32_t claim(bytes *b, uint64_t kind) {
 
 uint32_t bytes_open(bytes *b, const char *path, uint64_t kind, const bytes_options *options) {
     struct stat found;
-    *b = (bytes){.known = NULL};
+    *b = (bytes){.mapped = options->mapped};
     int is_old = !stat(path, &found) && found.st_size;
     uint32_t code = is_old ? shape_of(path, &b->setup) : setup_for(options, &b->setup);
     if (code) return code;
     if (!(b->known = known_new())) return ENVY_NO_MEMORY;
     if ((code = open_file(b, path, options->bytewise))) {
         free(b->known);
-        return code;
+        return is_old ? refused(path, b->mapped, code) : code;
     }
     b->room = (uint64_t)b->setup.pages * PAGE_BYTES - PAGE_BYTES;
     code = claim(b, kind);

@@ -2,9 +2,8 @@
    word 32 + b / 8 of the array, the lowest byte first; the first page of 32 words is a header, whose word 0 names the
    client and whose word 1 is a length that the client keeps.
 
-   Built as it is, an array is a durable file: a sync brings all that was written to the disk, as one. With
-   ENVY_CLIENT_MAPPED it is a mapped file: a write outlives the process at once, word by word, and the writes of a batch as
-   one.
+   An array is in a durable file, in which a sync brings all that was written to the disk, as one; or, if that is asked for,
+   in a mapped file, where a write outlives the process at once, word by word, and the writes of a batch as one.
 
    One call at a time uses an array, and one at a time opens or closes one: callers hold a lock. */
 #ifndef ENVY_CLIENT_BYTES_H
@@ -18,24 +17,23 @@ enum { WORD_BYTES = 8, HEADER_WORDS = 32 };
 
 /* What is answered beside the codes of the library. */
 enum bytes_code {
-    BYTES_OTHER_KIND = 2000 /* the array is another program's */
+    BYTES_OTHER_KIND = 2000, /* the array is another program's */
+    BYTES_MAPPED = 2001,     /* the file is a mapped one, and a durable one is asked for */
+    BYTES_DURABLE = 2002     /* the file is a durable one, and a mapped one is asked for */
 };
 
 /* A text for each code of the library or of this file. */
 const char *bytes_text(uint32_t code);
 
-/* How a file is made and opened. All but bytewise count when it is made: a file keeps its shape. */
+/* How a file is made and opened. Size, shadows and frames count when it is made: a file keeps its shape. */
 typedef struct bytes_options {
     uint64_t size;    /* bytes that it has room for */
     uint32_t shadows; /* pages of 256 bytes that a batch over a mapped file may change */
     uint32_t frames;  /* of SRAM, which hold pages that are written again and again; 0: for the size */
+    int mapped;       /* it is a mapped file, not a durable one. A file of the other kind is refused */
     int bytewise;     /* the file system and the disk write a durable file byte by byte (ENVY_BYTEWISE) */
 } bytes_options;
-#ifdef ENVY_CLIENT_MAPPED
-#define BYTES_OPTIONS_INIT {64u << 20, 4096, 0, 0}
-#else
-#define BYTES_OPTIONS_INIT {64u << 20, 1, 0, 0}
-#endif
+#define BYTES_OPTIONS_INIT {64u << 20, 4096, 0, 0, 0}
 
 /* What the client asked for, and what the array was asked for. */
 typedef struct bytes_counts {
@@ -51,6 +49,7 @@ struct undone;      /* batch.c */
 typedef struct bytes {
     envy memory;
     envy_setup setup;
+    int mapped;
     uint64_t room;   /* bytes */
     uint64_t length; /* word 1 of the header */
     bytes_counts counts;
@@ -63,7 +62,7 @@ typedef struct bytes {
 } bytes;
 
 /* Opens the array in the file at a path, or makes one if there is none or an empty one. The kind is a number of the client's
-   own, never 0. Answers 0, a code of the library, or BYTES_OTHER_KIND. Refused, nothing is open. */
+   own, never 0. Answers 0, a code of the library, or a bytes_code. Refused, nothing is open, and the file is as before. */
 uint32_t bytes_open(bytes *b, const char *path, uint64_t kind, const bytes_options *options);
 
 /* Ends it. If nothing is to be kept since the last sync, a durable file opens as of that sync. */

@@ -24,7 +24,7 @@ rounds() {
     tests/rounds.py bytewise "$rounds" "$(uri bytewise "&bytewise=1")" --seed 4
     tests/rounds.py machine "$((rounds / 4))" "$(uri files "&journal=file")" --seed 5
     tests/rounds.py failing "$((rounds / 2))" "$(uri failing "")" --seed 6
-    EXTENSION=$PWD/out/envyvfs_mapped.so tests/rounds.py kill "$((rounds / 2))" "file:$work/mapped.envy?vfs=envy-mapped&size=8M" --seed 7
+    tests/rounds.py kill "$((rounds / 2))" "$(uri mapped "&mapped=1")" --seed 7
 }
 
 device() {

@@ -18,7 +18,7 @@ tests=tests
 package() {
     case $1 in
     *envyvfs*.so) echo "libsqlite3-dev" ;;
-    *envy.so | *envy-mapped.so) echo "nbdkit-plugin-dev" ;;
+    *envy.so) echo "nbdkit-plugin-dev" ;;
     nbdinfo | nbdcopy) echo "libnbd-bin" ;;
     *) echo "${1##*/}" ;;
     esac
@@ -40,18 +40,15 @@ trap 'rm -rf "$work"' EXIT
 if has "the VFS" out/envyvfs.so sqlite3 python3; then
     $tests/sqlite.sh "$work"
     # (a ledger begins with each of the next lines, so each has a database of its own)
-    durable() { echo "file:$work/$1.envy?vfs=envy&size=8M"; }
-    mapped="file:$work/mapped.envy?vfs=envy-mapped&size=8M"
+    database() { echo "file:$work/$1.envy?vfs=envy&size=8M"; }
     files="file:$work/files.envy?vfs=envy&size=8M&journal=file"
     export EXTENSION=$PWD/out/envyvfs.so
-    $tests/rounds.py kill 10 "$(durable kill)"
-    $tests/rounds.py machine 20 "$(durable machine)"
-    $tests/rounds.py failing 10 "$(durable failing)"
+    $tests/rounds.py kill 10 "$(database kill)"
+    $tests/rounds.py machine 20 "$(database machine)"
+    $tests/rounds.py failing 10 "$(database failing)"
     $tests/rounds.py bytewise 15 "file:$work/bytewise.envy?vfs=envy&size=8M&bytewise=1" --pragma page_size=1024
     $tests/rounds.py machine 8 "$files"
-    if has "the VFS over mapped files" out/envyvfs_mapped.so; then
-        EXTENSION=$PWD/out/envyvfs_mapped.so $tests/rounds.py kill 8 "$mapped"
-    fi
+    $tests/rounds.py kill 8 "$(database mapped)&mapped=1"
 fi
 if has "an installed VFS" out/envyvfs.so sqlite3; then
     make -s DESTDIR="$work/installed" PREFIX=/usr install
@@ -73,10 +70,8 @@ if has "the device" out/envy.so nbdkit nbdinfo nbdcopy python3; then
     $tests/nbd_rounds.py kill 6
     $tests/nbd_rounds.py machine 12
     $tests/nbd_rounds.py bytewise 8 bytewise=true
-    if has "the device over mapped files" out/envy-mapped.so; then
-        PLUGIN=$PWD/out/envy-mapped.so $tests/nbd.sh "$work"
-        $tests/nbd_rounds.py kill 5 --mapped
-    fi
+    $tests/nbd.sh "$work" mapped=true
+    $tests/nbd_rounds.py kill 5 --mapped
     $tests/fs_rounds.py 3 || [ $? = 77 ]
 fi
 if has "the package for Python" python3 ../c/out/libenvy.so.0; then

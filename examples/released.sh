@@ -91,7 +91,7 @@ for file in LICENSE NOTICE CHANGELOG.md rust/Cargo.toml lib/x86_64/libenvy_parte
 done
 # the clients, built if the headers of SQLite and nbdkit are here, and once more by the user of the tar
 if [ -n "$headers" ]; then
-    for file in envyvfs.so envyvfs_mapped.so libenvyvfs.a envy.so envy-mapped.so; do
+    for file in envyvfs.so libenvyvfs.a envy.so; do
         [ -s "$here/lib/x86_64/$file" ] || fail "the tar has no $file"
     done
     make -s -C "$here/clients" PREFIX="$work/prefix" install >"$work/said" 2>&1 || fail "no clients are made of the tar: $(tail -n 3 "$work/said")"

@@ -52,11 +52,8 @@ static int config(const char *key, const char *value) {
     }
     if (!strcmp(key, "size")) return set_size(value);
     if (!strcmp(key, "frames")) return nbdkit_parse_uint32_t(key, value, &options.frames);
-#ifndef ENVY_CLIENT_MAPPED
+    if (!strcmp(key, "mapped")) return set_flag(value, &options.mapped);
     if (!strcmp(key, "bytewise")) return set_flag(value, &options.bytewise);
-#else
-    (void)set_flag;
-#endif
     nbdkit_error("no parameter is called %s", key);
     return -1;
 }
@@ -65,6 +62,10 @@ static int config_complete(void) {
     uint64_t most = bytes_largest(&options);
     if (!path) {
         nbdkit_error("file=PATH says which file the device is in");
+        return -1;
+    }
+    if (options.mapped && options.bytewise) {
+        nbdkit_error("bytewise=true is for a durable file, not for a mapped one");
         return -1;
     }
     if (options.size && options.size <= most) return 0;
@@ -186,10 +187,8 @@ static struct nbdkit_plugin plugin = {
     .config_help = "file=PATH       the file of the array; it is made if it isn't there\n"
                    "size=SIZE       of a new one (default 64M)\n"
                    "frames=N        pages of SRAM of a new one (default: for the size)\n"
-#ifndef ENVY_CLIENT_MAPPED
-                   "bytewise=BOOL   the file system and the disk write a file byte by byte: a flush waits once for the disk\n"
-#endif
-    ,
+                   "mapped=BOOL     the file is a mapped one, whose bytes outlive the process at once, and not the machine\n"
+                   "bytewise=BOOL   the file system and the disk write a file byte by byte: a flush waits once for the disk\n",
     .get_ready = get_ready, .after_fork = after_fork, .open = open_connection, .get_size = size_of,
     .block_size = block_size, .can_multi_conn = yes, .can_fua = fua, .can_trim = yes, .can_zero = yes, .pread = read_at,
     .pwrite = write_at, .flush = flush, .zero = zero_at, .trim = zero_at, .errno_is_preserved = 0,

@@ -94,6 +94,8 @@ static int refused(uint32_t code) {
     case ENVY_OTHER_JOURNAL:
     case ENVY_UNFORMATTED:
     case ENVY_OLDER: return SQLITE_NOTADB;
+    case BYTES_MAPPED:
+    case BYTES_DURABLE: return SQLITE_MISUSE;
     case ENVY_SYSTEM: return SQLITE_CANTOPEN;
     default: return code >= ENVY_BROKEN_FIELDS && code <= ENVY_BROKEN_UNDOS ? SQLITE_CORRUPT : SQLITE_CANTOPEN;
     }
@@ -273,7 +275,28 @@ static char *told(const database *d, const envy_counts *c) {
         c->copies, c->moves, c->erases, c->swaps);
 }
 
-/* envy_stat tells counts; envy_compact leaves in a durable file no more than the array takes. */
+/* Leaves in a durable file no more than the array takes. */
+static int compact(database *d, char **text) {
+    if (d->reserved) {
+        *text = sqlite3_mprintf("a transaction is open");
+        return SQLITE_BUSY;
+    }
+    uint32_t code = envy_compact(&d->bytes.memory);
+    *text = sqlite3_mprintf("%s", bytes_text(code));
+    return code ? SQLITE_IOERR : SQLITE_OK;
+}
+
+static int is_off(const char *value) {
+    return value && (!sqlite3_stricmp(value, "off") || !sqlite3_stricmp(value, "no") || !sqlite3_stricmp(value, "false") ||
+                     !strcmp(value, "0"));
+}
+
+/* Without syncs SQLite makes no batch, and no journal in a file either if its library knows batches. */
+static int refuses_off(const database *d, const char *value) {
+    return d->bytes.mapped && is_off(value) && sqlite3_compileoption_used("ENABLE_BATCH_ATOMIC_WRITE");
+}
+
+/* envy_stat tells counts. */
 static int pragma(database *d, char **text) {
     const char *name = text[1];
     envy_counts counts;
@@ -282,25 +305,11 @@ static int pragma(database *d, char **text) {
         text[0] = told(d, &counts);
         return text[0] ? SQLITE_OK : SQLITE_NOMEM;
     }
-#ifndef ENVY_CLIENT_MAPPED
-    if (!sqlite3_stricmp(name, "envy_compact")) {
-        if (d->reserved) {
-            text[0] = sqlite3_mprintf("a transaction is open");
-            return SQLITE_BUSY;
-        }
-        uint32_t code = envy_compact(&d->bytes.memory);
-        text[0] = sqlite3_mprintf("%s", bytes_text(code));
-        return code ? SQLITE_IOERR : SQLITE_OK;
-    }
-#else
-    /* without syncs SQLite makes no batch, and no journal in a file either if its library knows batches */
-    if (!sqlite3_stricmp(name, "synchronous") && text[2] && sqlite3_compileoption_used("ENABLE_BATCH_ATOMIC_WRITE") &&
-        (!sqlite3_stricmp(text[2], "off") || !sqlite3_stricmp(text[2], "no") || !sqlite3_stricmp(text[2], "false") ||
-         !strcmp(text[2], "0"))) {
+    if (!d->bytes.mapped && !sqlite3_stricmp(name, "envy_compact")) return compact(d, text);
+    if (!sqlite3_stricmp(name, "synchronous") && refuses_off(d, text[2])) {
         text[0] = sqlite3_mprintf("over a mapped file synchronous=OFF isn't safe: open it with nosync=1");
         return SQLITE_ERROR;
     }
-#endif
     return SQLITE_NOTFOUND;
 }
 

@@ -15,13 +15,6 @@
 SQLITE_EXTENSION_INIT1
 #define EXPORTED __attribute__((visibility("default")))
 #endif
-#ifdef ENVY_CLIENT_MAPPED
-#define VFS_NAME "envy-mapped"
-#define EXTENSION_INIT sqlite3_envyvfsmapped_init
-#else
-#define VFS_NAME "envy"
-#define EXTENSION_INIT sqlite3_envyvfs_init
-#endif
 
 static sqlite3_vfs *below;
 
@@ -70,7 +63,7 @@ static int last_error(sqlite3_vfs *v, int n, char *to) { return (void)v, below->
 static int time_now64(sqlite3_vfs *v, sqlite3_int64 *t) { return (void)v, below->xCurrentTimeInt64(below, t); }
 
 static sqlite3_vfs vfs = {
-    .iVersion = 2, .zName = VFS_NAME, .xOpen = open_it, .xDelete = delete_it, .xAccess = access_it, .xFullPathname = full_name,
+    .iVersion = 2, .zName = "envy", .xOpen = open_it, .xDelete = delete_it, .xAccess = access_it, .xFullPathname = full_name,
     .xDlOpen = open_library, .xDlError = library_error, .xDlSym = symbol_of, .xDlClose = close_library,
     .xRandomness = random_bytes, .xSleep = sleep_us, .xCurrentTime = time_now, .xGetLastError = last_error,
     .xCurrentTimeInt64 = time_now64,
@@ -94,7 +87,7 @@ int envyvfs_init(const char *unused) { return (void)unused, make_known(); }
 /* sqlite3_uri_key came with 3.32 */
 enum { LEAST_VERSION = 3032000 };
 
-EXPORTED int EXTENSION_INIT(sqlite3 *db, char **error, const sqlite3_api_routines *api) {
+EXPORTED int sqlite3_envyvfs_init(sqlite3 *db, char **error, const sqlite3_api_routines *api) {
     (void)db;
     SQLITE_EXTENSION_INIT2(api);
     if (sqlite3_libversion_number() < LEAST_VERSION) {

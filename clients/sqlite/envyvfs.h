@@ -7,8 +7,8 @@
 extern "C" {
 #endif
 
-/* Makes the VFS "envy" known to SQLite ("envy-mapped" in the library over mapped files). It answers SQLITE_OK or what
-   SQLite answers. A SQLite of one's own calls it by itself if it is built with SQLITE_EXTRA_INIT=envyvfs_init. */
+/* Makes the VFS "envy" known to SQLite. It answers SQLITE_OK or what SQLite answers. A SQLite of one's own calls it by itself
+   if it is built with SQLITE_EXTRA_INIT=envyvfs_init. */
 int envyvfs_init(const char *unused);
 
 #ifdef __cplusplus

@@ -7,14 +7,10 @@ enum { VALUE_ROOM = 64 };
 
 /* Names that SQLite itself reads from a URI. */
 static const char *const sqlite_names[] = {"cache", "immutable", "mode", "modeof", "nolock", "psow", "vfs", NULL};
-static const char *const names[] = {
-    "size", "frames", "journal",
-#ifdef ENVY_CLIENT_MAPPED
-    "shadows", "nosync",
-#else
-    "bytewise",
-#endif
-    NULL};
+/* Those of either kind of file, and of one kind alone. */
+static const char *const names[] = {"size", "frames", "journal", "mapped", NULL};
+static const char *const names_of_durable[] = {"bytewise", NULL};
+static const char *const names_of_mapped[] = {"shadows", "nosync", NULL};
 
 static int is_among(const char *name, const char *const *list) {
     for (; *list; list++)
@@ -82,42 +78,45 @@ static int read_count(const char *uri, const char *name, uint64_t most, uint32_t
     return rc;
 }
 
-static int read_journal(const char *uri, int *is_file, char **why) {
+static int read_journal(const char *uri, int mapped, int *is_file, char **why) {
     char room[VALUE_ROOM];
     const char *text = value_of(uri, "journal", room);
-    if (!text || !strcmp(text, "file")) {
-        *is_file |= text != NULL;
-        return SQLITE_OK;
-    }
-#ifndef ENVY_CLIENT_MAPPED
-    if (!strcmp(text, "memory")) return SQLITE_OK;
-    return refuse(why, "journal", text, "it is memory or file");
-#else
-    return refuse(why, "journal", text, "over a mapped file it is file");
-#endif
+    *is_file = mapped || (text && !strcmp(text, "file"));
+    if (!text || !strcmp(text, "file") || (!mapped && !strcmp(text, "memory"))) return SQLITE_OK;
+    return refuse(why, "journal", text, mapped ? "over a mapped file it is file" : "it is memory or file");
 }
 
-static int names_are_known(const char *uri, char **why) {
+/* What is wrong with a name, or NULL. */
+static const char *wrong_with(const char *name, int mapped) {
+    if (is_among(name, names) || is_among(name, sqlite_names)) return NULL;
+    if (is_among(name, names_of_durable)) return mapped ? "a mapped file has no such parameter" : NULL;
+    if (is_among(name, names_of_mapped)) return mapped ? NULL : "only a mapped file (mapped=1) has this parameter";
+    return "no parameter has this name";
+}
+
+static int names_are_known(const char *uri, int mapped, char **why) {
     const char *name;
-    for (int i = 0; (name = sqlite3_uri_key(uri, i)); i++)
-        if (!is_among(name, names) && !is_among(name, sqlite_names))
-            return refuse(why, name, sqlite3_uri_parameter(uri, name), "no parameter has this name");
+    for (int i = 0; (name = sqlite3_uri_key(uri, i)); i++) {
+        const char *wrong = wrong_with(name, mapped);
+        if (wrong) return refuse(why, name, sqlite3_uri_parameter(uri, name), wrong);
+    }
     return SQLITE_OK;
+}
+
+static int read_of_kind(const char *uri, options *o, uint32_t most, char **why) {
+    if (!o->bytes.mapped) return read_flag(uri, "bytewise", &o->bytes.bytewise, why);
+    int rc = read_count(uri, "shadows", most, &o->bytes.shadows, why);
+    return rc ? rc : read_flag(uri, "nosync", &o->syncs_nothing, why);
 }
 
 int options_read(const char *uri, options *o, char **why) {
     enum { MOST_FRAMES = 65536 };
     *o = (options){.bytes = BYTES_OPTIONS_INIT};
-    int rc = names_are_known(uri, why);
+    int rc = read_flag(uri, "mapped", &o->bytes.mapped, why);
+    if (!rc) rc = names_are_known(uri, o->bytes.mapped, why);
     if (!rc) rc = read_count(uri, "frames", MOST_FRAMES, &o->bytes.frames, why);
-    if (!rc) rc = read_journal(uri, &o->journal_is_file, why);
-#ifdef ENVY_CLIENT_MAPPED
-    o->journal_is_file = 1;
-    if (!rc) rc = read_count(uri, "shadows", MOST_FRAMES, &o->bytes.shadows, why);
-    if (!rc) rc = read_flag(uri, "nosync", &o->syncs_nothing, why);
-#else
-    if (!rc) rc = read_flag(uri, "bytewise", &o->bytes.bytewise, why);
-#endif
+    if (!rc) rc = read_journal(uri, o->bytes.mapped, &o->journal_is_file, why);
+    if (!rc) rc = read_of_kind(uri, o, MOST_FRAMES, why);
     /* the most that fits hangs on the others */
     if (!rc) rc = read_number(uri, "size", bytes_largest(&o->bytes), &o->bytes.size, why);
     return rc;

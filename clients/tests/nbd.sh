@@ -1,10 +1,13 @@
 #!/usr/bin/env bash
 # What stock tools do with the device: nbdcopy, fio with its checksums, qemu-img, and a file system by mke2fs and debugfs over
-# nbdfuse, looked at by e2fsck. What isn't here is left out, and named on standard error. A word is a folder of files.
+# nbdfuse, looked at by e2fsck. What isn't here is left out, and named on standard error.
+#
+#   nbd.sh [FOLDER [PARAMETER]]     a folder to work in, else a temporary one; a parameter of each device, as mapped=true
 set -eu
 here=$(cd "$(dirname "$0")" && pwd)
 out=${OUT:-$here/../out}
-plugin=${PLUGIN:-$out/envy.so}
+plugin=$out/envy.so
+kind=${2-mapped=false}
 work=$(mktemp -d "${1:-${TMPDIR:-/tmp}}/envy-nbd.XXXXXX")
 export PATH=$PATH:/usr/sbin:/sbin
 uri="nbd+unix:///?socket=$work/socket"
@@ -35,7 +38,7 @@ serve() {
     local file=$1
     shift
     rm -f socket
-    nbdkit -f -U socket "$plugin" "file=$file" "$@" 2>log &
+    nbdkit -f -U socket "$plugin" "file=$file" "$kind" "$@" 2>log &
     server=$!
     for _ in $(seq 300); do
         nbdinfo --size "$uri" >/dev/null 2>&1 && return
@@ -55,7 +58,7 @@ stop() {
 refuses() {
     local text=$1 found
     shift
-    if found=$(nbdkit -U - "$plugin" "$@" --run true 2>&1); then fail "$* was taken"; fi
+    if found=$(nbdkit -U - "$plugin" "$kind" "$@" --run true 2>&1); then fail "$* was taken"; fi
     grep -q -- "$text" <<<"$found" || fail "$*: wanted '$text', found '$found'"
 }
 
@@ -73,6 +76,14 @@ nbdcopy --flush drawn "$uri"
 nbdcopy "$uri" back && cmp drawn back || fail "a copy there and back differs"
 stop
 refuses "which size= doesn't change" file=disk size=4M
+cp disk before
+if [ "$kind" = mapped=true ]; then
+    refuses "the file is a mapped one, which mapped=1 opens" file=disk mapped=false
+    refuses "bytewise=true is for a durable file" file=disk bytewise=true
+else
+    refuses "the file is a durable one, which mapped=0 opens" file=disk mapped=true
+fi
+cmp disk before || fail "a file that was refused as the other kind was changed"
 serve disk
 nbdcopy "$uri" back && cmp drawn back || fail "after a restart the device differs"
 PYTHONDONTWRITEBYTECODE=1 python3 - "$here" <<'PROGRAM'

@@ -53,8 +53,8 @@ class Device:
             env["SHIM_CRASH"] = str(self.chance.randrange(3, 400))
             env["SHIM_SEED"] = str(self.chance.randrange(1 << 40))
             env["SHIM_BYTEWISE"] = str(int(self.given.how == "bytewise"))
-        plugin = f"{self.given.out}/envy{'-mapped' if self.given.mapped else ''}.so"
-        words = ["nbdkit", "-f", "-U", self.socket, plugin, f"file={self.folder}/disk.envy", SIZE, *self.given.parameters]
+        words = ["nbdkit", "-f", "-U", self.socket, f"{self.given.out}/envy.so", f"file={self.folder}/disk.envy", SIZE]
+        words += ["mapped=true"] * self.given.mapped + self.given.parameters
         with open(f"{self.folder}/log", "w", encoding="utf-8") as log:
             process = subprocess.Popen(words, env=env, stderr=log)
         for _ in range(400):

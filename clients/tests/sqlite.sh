@@ -64,6 +64,18 @@ sqlite3 plain "create table t(a)"
 tells "file is not a database" "file:plain?vfs=envy" "select 1;"
 cmp other before && [ "$(sqlite3 plain .tables)" = t ] || fail "a refused file was changed"
 
+# a file is made as a durable or a mapped one, and opened as that alone; over a mapped one journals are files
+wants "ok" "file:mapped?vfs=envy&size=1M&mapped=1&shadows=99" "create table t(a);" "begin; insert into t values(1);" "rollback;" "insert into t values(2);" \
+    ".shell [ ! -e mapped-journal ]" "pragma integrity_check;"
+cp mapped before && cp page.512 durable
+tells "the file is a mapped one, which mapped=1 opens" "file:mapped?vfs=envy" "select 1;"
+tells "the file is a durable one, which mapped=0 opens" "file:durable?vfs=envy&mapped=1" "select 1;"
+cmp mapped before && cmp page.512 durable || fail "a file that was refused as the other kind was changed"
+tells "bytewise=1: a mapped file has no such parameter" "file:mapped?vfs=envy&mapped=1&bytewise=1" "select 1;"
+tells "nosync=1: only a mapped file" "file:page.512?vfs=envy&nosync=1" "select 1;"
+tells "journal=memory: over a mapped file it is file" "file:mapped?vfs=envy&mapped=1&journal=memory" "select 1;"
+ENVYVFS="mapped=1&bytewise=1" wants 2 "file:mapped?vfs=envy" "select a from t;"
+
 # a second process is refused while the first has the file, and has it then
 { printf '.load %s\n' "$out/envyvfs"; echo ".open 'file:page.1024?vfs=envy'"; echo "begin immediate;"; echo ".system touch open"; sleep 3; } | sqlite3 &
 first=$!

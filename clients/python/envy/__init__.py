@@ -25,6 +25,7 @@ from .errors import (
     FormatError,
     FullError,
     HeldError,
+    KindError,
     LockedError,
     MapError,
     MissingError,
@@ -43,7 +44,7 @@ __version__ = "0.5.0"
 
 __all__ = [
     "AbsentError", "AddressError", "ClosedError", "Counts", "DeniedError", "Did", "EnvyError", "FileError", "ForkedError",
-    "FormatError", "FullError", "HeldError", "LockedError", "Map", "MapError", "Memory", "MissingError",
+    "FormatError", "FullError", "HeldError", "KindError", "LockedError", "Map", "MapError", "Memory", "MissingError",
     "MissingLibraryError", "NoMemoryError", "Setup", "SetupError", "Transaction", "TransactionError", "library_version",
     "open", "setup_for", "shape",
 ]  # fmt: skip

@@ -45,6 +45,10 @@ class FormatError(EnvyError, ValueError):
     """What the file holds is no memory, one of other sizes, or damaged. The file isn't changed."""
 
 
+class KindError(FormatError):
+    """The file is a mapped one and `mapped` wasn't given, or it is a durable one and `mapped` was. The file isn't changed."""
+
+
 class NoMemoryError(EnvyError, MemoryError):
     """The heap gave nothing."""
 
@@ -103,8 +107,8 @@ class ForkedError(DeniedError):
 # The class of each code that isn't a plain EnvyError; those of the system are told apart by errno.
 CLASSES: Dict[int, Type[EnvyError]] = {
     1: ClosedError, 3: AddressError, 4: HeldError, 5: FullError, 6: TransactionError, 7: ClosedError, 9: NoMemoryError,
-    17: SetupError, 18: FormatError, 19: FormatError, 20: FormatError, 54: AbsentError, 55: MapError,
-    56: TransactionError, 57: SetupError, 62: MapError, 80: MapError, 72: FormatError, 73: FormatError, 74: FormatError,
+    17: SetupError, 54: AbsentError, 55: MapError, 56: TransactionError, 57: SetupError, 62: MapError, 80: MapError,
+    **{code: FormatError for code in (14, 15, 16, 18, 19, 20, 72, 73, 74)},
     **{code: SetupError for code in (*range(21, 31), 58, 59)},
     **{code: FormatError for code in (*range(31, 43), 63)},
 }  # fmt: skip

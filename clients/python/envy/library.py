@@ -13,6 +13,7 @@ NAME = "libenvy.so.0"
 
 # The codes that the package asks for by name; c/envy_codes.h has all.
 EMPTY, OFF, RANGE, HELD, CLOSED, NO_MEMORY, OTHER_SHAPE = 1, 2, 3, 4, 7, 9, 20
+UNFORMATTED, OLDER = 18, 19
 ABSENT, SLOT_OPEN, MAP_SETUP, NO_JOURNAL, APPENDED = 54, 56, 57, 72, 75
 SYSTEM, LOCKED, TOO_MANY = 1000, 1001, 1002
 
@@ -54,6 +55,7 @@ TAKES = {
     "envy_file_shape": (_path, _setup),
     "envy_file_error": (_place,),
     "envy_open_file": (_place, _path, _setup, ctypes.c_uint32),
+    "envy_open_mapped": (_place, _path, _setup, ctypes.c_uint32),
     "envy_leave": (_place,),
     "envy_close": (_place,),
     "envy_sync": (_place,),

@@ -63,7 +63,8 @@ class Memory(Sequence[int]):
     (8, [8, 1, 2, 3], 8, 1024)
 
     After `m.sync()`, whatever a stop of the process or of the machine leaves opens as the array of that sync or of a later
-    one; what was done since may be lost. `m.close()`, and the end of a `with` block, sync too.
+    one; what was done since may be lost. `m.close()`, and the end of a `with` block, sync too. A mapped file has each word as
+    soon as the call has ended, if the process stops; a machine that stops may leave it as it likes.
 
     Threads may share a memory: each call is one at a time, and a slice is assigned whole or not at all."""
 
@@ -76,16 +77,20 @@ class Memory(Sequence[int]):
         owned_pages: Optional[int] = None,
         setup: Optional[Setup] = None,
         readonly: bool = False,
+        mapped: bool = False,
     ) -> None:
         """As `envy.open`."""
         name = os.fsdecode(path)
         if readonly and bytewise:
             raise TypeError("a file that is only read is opened as it is, not bytewise")
+        if mapped and (readonly or bytewise):
+            raise TypeError("a mapped file isn't opened bytewise, nor for reading alone")
         self._setup = _chosen(name, words, owned_pages, setup, readonly)
         self._bytewise = bytewise
         self._readonly = readonly
+        self._mapped = mapped
         self._n = self._setup.words
-        self._place = place = Place(name, struct_of(self._setup), bytewise, readonly)
+        self._place = place = Place(name, struct_of(self._setup), bytewise, readonly, mapped)
         self._dropped = weakref.finalize(self, _drop, place)
 
     @property
@@ -107,6 +112,11 @@ class Memory(Sequence[int]):
     def readonly(self) -> bool:
         """Whether it was opened for reading alone."""
         return self._readonly
+
+    @property
+    def mapped(self) -> bool:
+        """Whether it is a mapped file."""
+        return self._mapped
 
     @property
     def closed(self) -> bool:
@@ -176,8 +186,8 @@ class Memory(Sequence[int]):
             self._place.check(self._place.c.envy_sync(handle))
 
     def compact(self) -> None:
-        """A sync that leaves in the file no more than the array takes. FileError with code 75: all is on the disk, but no
-        second file could be written; the memory goes on."""
+        """A sync that leaves in the file no more than the array takes; a mapped file keeps its size. FileError with code 75:
+        all is on the disk, but no second file could be written; the memory goes on."""
         with self._place as handle:
             self._place.check(self._place.c.envy_compact(handle))
 
@@ -197,7 +207,8 @@ class Memory(Sequence[int]):
 
     def close(self, sync: bool = True) -> None:
         """Syncs and gives up the file and its lock. Open transactions are undone. Closed once more it does nothing, and in a
-        process that was forked off it gives up the copy alone. Without `sync` the file opens as of the last sync.
+        process that was forked off it gives up the copy alone. Without `sync` the file opens as of the last sync, unless it
+        is mapped.
 
         FileError: the last sync failed; the file opens as of that sync or of the previous one."""
         self._dropped.detach()
@@ -271,6 +282,7 @@ def open(
     owned_pages: Optional[int] = None,
     setup: Optional[Setup] = None,
     readonly: bool = False,
+    mapped: bool = False,
 ) -> Memory:
     """Opens the memory in a file, or makes one of zeros if there is none: then `words` says how many words it shall have at
     least. An old file keeps its sizes; it is refused if `words` asks for more.
@@ -283,7 +295,13 @@ def open(
     open otherwise. What is stored is seen until it is closed; a call that would write to the file, as a sync, is a FileError
     with EROFS, and ends the memory.
 
+    With `mapped` the file is one that the process maps: what is stored outlives the process at once, and the machine only
+    after a sync or the end, if nothing was changed since. A file stays of the kind that it was made as, and is refused as the
+    other one (KindError).
+
     MissingError (a FileNotFoundError): there is no file, and no `words`. LockedError (a BlockingIOError): it is open already,
     here or in another process. FormatError (a ValueError): it holds something else, or has other sizes, or is damaged.
     SetupError (a ValueError): no memory has such sizes. FileError (an OSError): the system refused a call."""
-    return Memory(path, words, bytewise=bytewise, owned_pages=owned_pages, setup=setup, readonly=readonly)
+    return Memory(
+        path, words, bytewise=bytewise, owned_pages=owned_pages, setup=setup, readonly=readonly, mapped=mapped
+    )

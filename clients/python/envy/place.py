@@ -7,17 +7,17 @@ import ctypes
 import errno
 import os
 import threading
-from typing import Any, Deque, Set
+from typing import Any, Deque, Optional, Set
 
 from . import library
-from .errors import ClosedError, EnvyError, FileError, ForkedError, HeldError, error, file_error
+from .errors import ClosedError, EnvyError, FileError, ForkedError, HeldError, KindError, error, file_error
 from .library import SetupStruct
 
 
 class Place:
     """`with place as handle:` gives the handle of the open file to one thread at a time."""
 
-    def __init__(self, path: str, setup: SetupStruct, bytewise: bool, readonly: bool = False) -> None:
+    def __init__(self, path: str, setup: SetupStruct, bytewise: bool, readonly: bool = False, mapped: bool = False) -> None:
         self.c = library.load()
         self.path = path
         self.process = os.getpid()
@@ -32,9 +32,11 @@ class Place:
         self.map_at: Optional[int] = None
         name, handle = library.encoded(path), library.Handle()
         flags = library.READING if readonly else library.CREATE | (library.BYTEWISE if bytewise else 0)
-        code = self.c.envy_open_file(handle, name, ctypes.byref(setup), flags)
+        open_it = self.c.envy_open_mapped if mapped else self.c.envy_open_file
+        code = open_it(handle, name, ctypes.byref(setup), flags)
         if code:
-            raise self._error(code, ctypes.get_errno(), path)
+            refused = self._error(code, ctypes.get_errno(), path)
+            raise _kind_error(self.c, name, mapped, path) or refused
         self.handle = handle
 
     def __enter__(self) -> Any:
@@ -105,3 +107,18 @@ class Place:
             self.close()
         except FileError:
             pass
+
+
+def _kind_error(c: Any, name: bytes, mapped: bool, path: str) -> Optional[KindError]:
+    """Returns the error of a file of the other kind. The library finds the sizes of a file of either kind, and an opening
+    without sizes those of its own kind alone."""
+    tried = library.Handle()
+    if c.envy_file_shape(name, ctypes.byref(SetupStruct())):
+        return None
+    code = (c.envy_open_mapped if mapped else c.envy_open_file)(tried, name, None, 0 if mapped else library.READING)
+    if not code:
+        c.envy_leave(tried)
+    if code not in (library.NO_JOURNAL, library.UNFORMATTED, library.OLDER):
+        return None
+    told = "a durable file: open it without mapped=True" if mapped else "a mapped file: open it with mapped=True"
+    return KindError(code, f"{path} is {told}")

@@ -77,6 +77,45 @@ class FileTest(unittest.TestCase):
             self.refused(envy.LockedError, 1001, readonly=True)
             self.assertEqual((m[5], m.readonly), (7, False))
 
+    def test_a_mapped_file_outlives_its_process(self):
+        program = "import envy, os, signal, sys; m = envy.open(sys.argv[1], 1000, mapped=True); m[5] = 7; t = m.transaction(); t[6] = 1; "
+        program += "s = m.transaction(); s[40] = 2; s.commit(); os.kill(os.getpid(), signal.SIGKILL)"
+        folder = os.path.dirname(os.path.dirname(os.path.abspath(envy.__file__)))
+        words = [sys.executable, "-c", program, self.path]
+        self.assertEqual(subprocess.run(words, env={**os.environ, "PYTHONPATH": folder}).returncode, -9)
+        with envy.open(self.path, mapped=True) as m:
+            self.assertEqual((m[5:7], m[40], m.mapped, m.setup), ([7, 0], 2, True, envy.shape(self.path)))
+            size = os.path.getsize(self.path)
+            m.map(new=True)[3] = 4
+            m.compact()
+            self.refused(envy.LockedError, 1001, mapped=True)
+        with envy.open(self.path, mapped=True) as m:
+            self.assertEqual((dict(m.map()), os.path.getsize(self.path)), ({3: 4}, size))
+            m.close(sync=False)
+
+    def test_a_file_stays_of_its_kind(self):
+        for options in ({}, {"mapped": True}):
+            with envy.open(self.path, 1000, **options) as m:
+                m[5] = 7
+            with open(self.path, "rb") as it:
+                before = it.read()
+            other = {"mapped": not options}
+            for more in ({}, {"setup": envy.shape(self.path)}, {"setup": envy.setup_for(5000)}, {"words": 10}):
+                error = self.refused(envy.KindError, 72 if options else 18, **other, **more)
+                self.assertIn("with mapped=True" if options else "without mapped=True", str(error))
+            self.refused(envy.FormatError, 20, 1025, **other)
+            with open(self.path, "rb") as it:
+                self.assertEqual(it.read(), before)
+            with envy.open(self.path, **options) as m:
+                self.assertEqual((m[5], m.mapped), (7, bool(options)))
+            os.remove(self.path)
+        self.assertRaises(TypeError, envy.open, self.path, 10, mapped=True, bytewise=True)
+        self.assertRaises(TypeError, envy.open, self.path, 10, mapped=True, readonly=True)
+        with open(self.path, "wb") as it:
+            it.write(bytes(4096))
+        self.refused(envy.FormatError, 72, mapped=True)
+        self.assertRaises(envy.MissingError, envy.open, self.path + ".none", mapped=True)
+
     def test_a_torn_end_is_read_over(self):
         self.make()
         with open(self.path, "ab") as it:

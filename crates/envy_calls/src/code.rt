@@ -145,6 +145,7 @@ fn image_answer(rule: u32) -> u32
 
 impl Code {
     /// The number that stands for the answer.
+    #[inline(always)]
     pub fn number(self) -> u32
         ensures { result ≡ number_of self }
     {
