@@ -42,9 +42,14 @@ class PairStruct(ctypes.Structure):
     _fields_ = [("key", ctypes.c_uint64), ("value", ctypes.c_uint64)]
 
 
+class RangeStruct(ctypes.Structure):
+    _fields_ = [("first", ctypes.c_uint32), ("words", ctypes.c_uint32)]
+
+
 _place, _address, _slot, _n = ctypes.c_void_p, ctypes.c_uint32, ctypes.c_uint32, ctypes.c_size_t
 _word, _number, _pointer, _path = ctypes.c_uint64, ctypes.POINTER(ctypes.c_uint32), ctypes.c_void_p, ctypes.c_char_p
 _a_word, _setup, _pair = ctypes.POINTER(ctypes.c_uint64), ctypes.POINTER(SetupStruct), ctypes.POINTER(PairStruct)
+_range = ctypes.POINTER(RangeStruct)
 
 # What each call takes. They answer a code, unless RESULTS says otherwise.
 TAKES = {
@@ -83,6 +88,7 @@ TAKES = {
     "envy_index_last": (_place, _word, _pair),
     "envy_index_scan": (_place, _word, _pointer, _n, ctypes.POINTER(_n)),
     "envy_index_scan_down": (_place, _word, _pointer, _n, ctypes.POINTER(_n)),
+    "envy_map_load": (_place, _range, _pointer, _n),
 }
 RESULTS = {
     "envy_version": ctypes.c_char_p,

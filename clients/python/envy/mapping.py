@@ -4,12 +4,12 @@ from __future__ import annotations
 
 import ctypes
 import operator
-from typing import TYPE_CHECKING, Any, ItemsView, Iterator, KeysView, List, Mapping, MutableMapping, Optional, SupportsIndex, Tuple
-from typing import ValuesView
+from typing import TYPE_CHECKING, Any, ItemsView, Iterable, Iterator, KeysView, List, Mapping, MutableMapping, Optional
+from typing import SupportsIndex, Tuple, ValuesView
 
 from . import tree
 from .errors import AbsentError, MapError
-from .library import ABSENT, MAP_SETUP, SLOT_OPEN, WORDS, PairStruct
+from .library import ABSENT, MAP_SETUP, SLOT_OPEN, WORDS, PairStruct, RangeStruct
 from .words import word_of
 
 if TYPE_CHECKING:
@@ -133,6 +133,17 @@ class Map(MutableMapping[int, int]):
         with self._place as handle:
             self._check_words(handle)
             self._place.check(self._place.c.envy_index_create(handle))
+
+    def load(self, pairs: Iterable[Tuple[SupportsIndex, SupportsIndex]]) -> None:
+        """Makes these pairs, whose keys rise, the pairs of the map, in place of those that it has: leaf by leaf, in much less
+        time than one by one. ValueError: the keys don't rise. MapError: it has no room for so many. Nothing changes then."""
+        words = [(word_of(key), word_of(value)) for key, value in pairs]
+        if any(one[0] >= next_one[0] for one, next_one in zip(words, words[1:])):
+            raise ValueError("the keys of a load must rise")
+        with self._place as handle:
+            self._check_words(handle)
+            whole = RangeStruct(0, len(self._memory))
+            self._place.check(self._place.c.envy_map_load(handle, whole, (PairStruct * len(words))(*words), len(words)))
 
     def __reduce__(self) -> Any:
         raise TypeError("a map can't be copied or pickled; dict(map) is a copy of its pairs")

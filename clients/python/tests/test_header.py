@@ -30,6 +30,7 @@ class HeaderTest(unittest.TestCase):
         self.assertEqual(library.SetupStruct._fields_, fields_of(codes, "envy_setup"))
         self.assertEqual(library.CountsStruct._fields_, fields_of(codes, "envy_counts"))
         self.assertEqual(library.PairStruct._fields_, fields_of(pair, "envy_pair"))
+        self.assertEqual(library.RangeStruct._fields_, fields_of(pair, "envy_map"))
         self.assertEqual(envy.Setup._fields, tuple(name for name, _ in fields_of(codes, "envy_setup")))
         self.assertEqual(envy.Counts._fields, tuple(name for name, _ in fields_of(codes, "envy_counts")))
 

@@ -39,6 +39,22 @@ class MapTest(unittest.TestCase):
         self.assertEqual((len(a), list(a.items())), (0, []))
         self.assertRaises(KeyError, a.popitem)
 
+    def test_a_load(self):
+        a = self.m.map()
+        for n in (0, 1, 14, 15, 31, 32, 46, 500, 1000):
+            a[MOST] = 1
+            a.load((3 * i, i) for i in range(n))
+            self.assertEqual((len(a), dict(a)), (n, {3 * i: i for i in range(n)}))
+            a[4] = 5
+            self.assertEqual((a[4], a.pop(4)), (5, 5))
+        before = dict(a)
+        for why, pairs in ((ValueError, [(1, 1), (1, 2)]), (ValueError, [(2, 1), (1, 2)]), (ValueError, [(-1, 1)]), (TypeError, [(1, None)]),
+                           (envy.MapError, [(i, i) for i in range(10_000)])):  # fmt: skip
+            self.assertRaises(why, a.load, pairs)
+        self.assertEqual(dict(a), before)
+        with self.m.transaction():
+            self.assertRaises(envy.TransactionError, a.load, [])
+
     def test_what_is_refused(self):
         a = self.m.map()
         for call in (lambda: a[5], lambda: a.__delitem__(5), lambda: a.pop(5), lambda: a[-1], lambda: a.__delitem__(2**64)):
