@@ -55,6 +55,7 @@ impl<B: Board> Memory<B> {
     /// # Errors
     ///
     /// `Off`, then `Range`. Nothing changes then.
+    #[inline(always)]
     pub fn load(&mut self, a: u32) -> Result<u64, LoadFault>
         ensures step { (m : Array) → Stands self.old.chart m → Loads m a result self.new.chart }
         ensures off { (result ≡ Err LoadFault.Off) ↔ (self.new.chart.on ≡ false) }
