@@ -135,6 +135,7 @@ fn taken<B: Board>(memory: Memory<B>) -> OneTx<B>
 ///
 /// `Empty`; then `Off`; `SlotOpen`, if another slot is open than that of the transaction; `Closed`, if its slot isn't
 /// the open first one; `Range`. The place is as before then.
+#[inline(always)]
 pub fn lend<B: Board + Drop>(
     place: &mut Option<Memory<B>>,
     whose: Whose,
@@ -155,6 +156,7 @@ pub fn lend<B: Board + Drop>(
 }
 
 /// Puts the memory back into its place.
+#[inline(always)]
 pub fn give_back<B: Board + Drop>(place: &mut Option<Memory<B>>, words: OneTx<B>)
     ensures back { place.new ≡ Some words.memory }
     ensures opened { IsTrue (sheet_of words.memory words.begun).started → IsOpen words.memory }

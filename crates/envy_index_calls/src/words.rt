@@ -39,6 +39,7 @@ fn refusal<B: Board>(memory: &mut Memory<B>) -> Option<Code>
 /// # Errors
 ///
 /// `Empty`; `MapSetup`, where no map fits; `SlotOpen`. The place is as before then.
+#[inline(always)]
 pub fn words_of<B: Board + Drop>(slot: &mut Option<Memory<B>>) -> Result<OneTx<B>, Code>
     requires { ForSome slot.old HoldsArray }
     ensures lends { MatchResult result (λ words. Lends slot.old slot.new (Ok (words.memory, words.begun))) (λ code.
@@ -55,6 +56,7 @@ pub fn words_of<B: Board + Drop>(slot: &mut Option<Memory<B>>) -> Result<OneTx<B
 }
 
 /// Puts the memory back into its place.
+#[inline(always)]
 pub fn return_words<B: Board + Drop>(slot: &mut Option<Memory<B>>, words: OneTx<B>)
     ensures back { slot.new ≡ Some words.memory }
     ensures shut { IsTrue words.memory.chart.on → (sheet_of words.memory words.begun).started ≡ false
