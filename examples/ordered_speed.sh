@@ -16,15 +16,15 @@ for together in 1 100; do
     for engine in $engines; do
         for turn in 1 2 3; do
             rm -f "$work"/file*
-            "$work/speed" $engine "$work/file" "$pairs" 4 $together
+            "$work/speed" $engine "$work/file" "$pairs" 5 $together
         done
     done | awk -v together=$together '{ at = $1 " " $2; if (!(at in best) || $3 < best[at]) best[at] = $3 }
         END {
-            print "| Microseconds for each pair, by " together " | insert | get | scan | remove |\n|---|---|---|---|---|"
-            split("envy lmdb sqlite", names); split("insert get scan remove", phases)
+            print "| Microseconds for each pair, by " together " | insert | get | scan | remove | load |\n|---|---|---|---|---|---|"
+            split("envy lmdb sqlite", names); split("insert get scan remove load", phases)
             for (i = 1; i <= 3; i++) {
                 printf "| `%s` |", names[i]
-                for (j = 1; j <= 4; j++) printf " %.2f |", best[names[i] " " phases[j]]
+                for (j = 1; j <= 5; j++) printf " %.2f |", best[names[i] " " phases[j]]
                 print ""
             }
             print ""
@@ -34,12 +34,12 @@ done
 command -v valgrind >/dev/null || exit 0
 few=10000
 for together in 1 100; do
-    echo "| Instructions for each of $few pairs, by $together | insert | get | scan | remove |"
-    echo '|---|---|---|---|---|'
+    echo "| Instructions for each of $few pairs, by $together | insert | get | scan | remove | load |"
+    echo '|---|---|---|---|---|---|'
     for engine in $engines; do
         before=0
         row="| \`$engine\` |"
-        for phases in 0 1 2 3 4; do
+        for phases in 0 1 2 3 4 5; do
             rm -f "$work"/file*
             valgrind --tool=callgrind --callgrind-out-file=/dev/null "$work/speed" $engine "$work/file" $few $phases $together >/dev/null 2>"$work/said"
             count=$(awk '/Collected/ { print $NF }' "$work/said")

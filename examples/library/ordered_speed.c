@@ -3,8 +3,8 @@
 
      ordered_speed ENGINE FILE PAIRS PHASES TOGETHER
 
-   Phases, in this order: 1 inserts the pairs, 2 looks each up, 3 goes over all by rising key, 4 takes each out. It writes a line for
-   each, with its microseconds for each pair. */
+   Phases, in this order: 1 inserts the pairs, 2 looks each up, 3 goes over all by rising key, 4 takes each out, 5 loads as many
+   by rising key at once. It writes a line for each, with its microseconds for each pair. */
 #include "../../c/envy.h"
 #include <lmdb.h>
 #include <sqlite3.h>
@@ -32,6 +32,7 @@ typedef struct engine {
     void (*take_out)(uint64_t key);
     void (*begin)(void);
     void (*commit)(void);
+    void (*load)(uint64_t pairs);
 } engine;
 
 /* how many changes a transaction has */
@@ -97,6 +98,14 @@ static void map_commit(void) {
     if (together > 1) must(envy_map_commit(&map, slot) == ENVY_DONE, "commit");
 }
 
+static void map_load(uint64_t pairs) {
+    envy_pair *list = malloc(pairs * sizeof *list);
+    must(list != NULL, "memory");
+    for (uint64_t i = 0; i < pairs; i++) list[i] = (envy_pair){i, i};
+    must(envy_map_load(&map, &whole, list, pairs) == ENVY_DONE, "load");
+    free(list);
+}
+
 /* ---- LMDB */
 
 static MDB_env *environment;
@@ -148,6 +157,15 @@ static uint64_t lmdb_scan(uint64_t *sum) {
 static void lmdb_remove(uint64_t key) {
     MDB_val k = {sizeof key, &key};
     must(!mdb_del(writing, table, &k, NULL), "del");
+}
+
+static void lmdb_load(uint64_t pairs) {
+    lmdb_begin();
+    for (uint64_t i = 0; i < pairs; i++) {
+        MDB_val k = {sizeof i, &i}, v = {sizeof i, &i};
+        must(!mdb_put(writing, table, &k, &v, MDB_APPEND), "append");
+    }
+    lmdb_commit();
 }
 
 /* ---- SQLite */
@@ -206,12 +224,18 @@ static void sqlite_begin(void) { sqlite_do("begin"); }
 
 static void sqlite_commit(void) { sqlite_do("commit"); }
 
+static void sqlite_load(uint64_t pairs) {
+    must(sqlite3_exec(base, "begin", NULL, NULL, NULL) == SQLITE_OK, "begin");
+    for (uint64_t i = 0; i < pairs; i++) sqlite_insert(i, i);
+    must(sqlite3_exec(base, "commit", NULL, NULL, NULL) == SQLITE_OK, "commit");
+}
+
 /* ---- phases */
 
 static const engine engines[] = {
-    {"envy", envy_open, map_insert, map_get, map_scan, map_remove, map_begin, map_commit},
-    {"lmdb", lmdb_open, lmdb_insert, lmdb_get, lmdb_scan, lmdb_remove, lmdb_begin, lmdb_commit},
-    {"sqlite", sqlite_open, sqlite_insert, sqlite_get, sqlite_scan, sqlite_remove, sqlite_begin, sqlite_commit},
+    {"envy", envy_open, map_insert, map_get, map_scan, map_remove, map_begin, map_commit, map_load},
+    {"lmdb", lmdb_open, lmdb_insert, lmdb_get, lmdb_scan, lmdb_remove, lmdb_begin, lmdb_commit, lmdb_load},
+    {"sqlite", sqlite_open, sqlite_insert, sqlite_get, sqlite_scan, sqlite_remove, sqlite_begin, sqlite_commit, sqlite_load},
 };
 
 static double seconds(void) {
@@ -244,11 +268,14 @@ static void run(const engine *e, uint64_t pairs, int phase) {
     case 4:
         for (uint64_t i = 0; i < pairs; i++) before(e, i), e->take_out(key_of(i * 7919 % pairs)), after(e, i, pairs);
         break;
+    case 5:
+        e->load(pairs);
+        break;
     }
 }
 
 int main(int words, char **word) {
-    static const char *const names[] = {"", "insert", "get", "scan", "remove"};
+    static const char *const names[] = {"", "insert", "get", "scan", "remove", "load"};
     if (words != 6) return 2;
     uint64_t pairs = strtoull(word[3], NULL, 10);
     together = strtoull(word[5], NULL, 10);
